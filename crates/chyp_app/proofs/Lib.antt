@@ -1,0 +1,10 @@
+mod CheckLemmas
+mod ExpansionLemmas
+mod JudgedLemmas
+mod NameLemmas
+mod OutputLemmas
+mod PlainLemmas
+mod ReportLemmas
+mod SmallLemmas
+mod SpanLemmas
+mod VerdictLemmas

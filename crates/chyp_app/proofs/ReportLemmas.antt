@@ -1,0 +1,29 @@
+-- The lines of a report, one by one.
+use Rattle.std.proofs.Common.{◌≡◌, ℕ, zero, suc, ◌+◌, List, [], ◌∷◌, ◌++◌, drop, Some, slice_get, ap, sym, ◌∙◌, append_assoc, add-one}
+use Rattle.chyp_base.specs.declared.verdict.Verdict.{Verdict}
+use Rattle.chyp_lex.specs.declared.token.Token.{Token}
+use Rattle.chyp_syntax.specs.declared.chunk.Chunk.{Chunk}
+use Rattle.chyp_app.specs.Statement.{chunk_tokens}
+use Rattle.chyp_app.specs.Report.{line_of, lines_of}
+
+lines-suc : (text : List ℕ) (tokens : List Token) (i : ℕ) (chunk : Chunk) (verdict : Verdict) (chunks : List Chunk) (verdicts : List Verdict)
+    → slice_get chunks i ≡ Some chunk → slice_get verdicts i ≡ Some verdict
+    → lines_of text tokens (drop i chunks) (drop i verdicts) ≡ line_of text (chunk_tokens tokens chunk) verdict ++ lines_of text tokens (drop (suc i) chunks) (drop (suc i) verdicts)
+lines-suc text tokens i chunk verdict [] verdicts e f = absurd cc
+lines-suc text tokens i chunk verdict (c ∷ cs) [] e f = absurd cc
+lines-suc text tokens zero chunk verdict (c ∷ cs) (v ∷ vs) e f =
+    let same : c ≡ chunk = cc in
+    let alike : v ≡ verdict = cc in
+    ap (λ x. line_of text (chunk_tokens tokens x) v ++ lines_of text tokens cs vs) same
+    ∙ ap (λ y. line_of text (chunk_tokens tokens chunk) y ++ lines_of text tokens cs vs) alike
+lines-suc text tokens (suc i) chunk verdict (c ∷ cs) (v ∷ vs) e f = lines-suc text tokens i chunk verdict cs vs e f
+
+-- what is written and what is left stay the same when a line is written
+pub lines-turn : (text : List ℕ) (tokens : List Token) (i : ℕ) (chunk : Chunk) (verdict : Verdict) (chunks : List Chunk) (verdicts : List Verdict) (written : List ℕ)
+    → slice_get chunks i ≡ Some chunk → slice_get verdicts i ≡ Some verdict
+    → (written ++ line_of text (chunk_tokens tokens chunk) verdict) ++ lines_of text tokens (drop (i + 1) chunks) (drop (i + 1) verdicts)
+    ≡ written ++ lines_of text tokens (drop i chunks) (drop i verdicts)
+lines-turn text tokens i chunk verdict chunks verdicts written e f =
+    ap (λ n. (written ++ line_of text (chunk_tokens tokens chunk) verdict) ++ lines_of text tokens (drop n chunks) (drop n verdicts)) (add-one i)
+    ∙ append_assoc written (line_of text (chunk_tokens tokens chunk) verdict) (lines_of text tokens (drop (suc i) chunks) (drop (suc i) verdicts))
+    ∙ ap (λ lines. written ++ lines) (sym (lines-suc text tokens i chunk verdict chunks verdicts e f))

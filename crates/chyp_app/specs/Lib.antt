@@ -1,0 +1,11 @@
+pub mod Environment
+pub mod Expansion
+pub mod Faults
+pub mod Headline
+pub mod Judged
+pub mod Output
+pub mod Place
+pub mod Plain
+pub mod Report
+pub mod Statement
+pub mod Words

@@ -1,0 +1,62 @@
+// From the bytes of a text to its report.
+ghost use Rattle.std.specs.Prelude.{◌≡◌, ◌≤◌, length, IfOk, OnErr};
+ghost use Rattle.chyp_app.specs.Output.{status_of, text_limit, CountsStatements, EachTextHasOneOutput};
+ghost use Rattle.chyp_app.specs.Headline.{Checks, BeginsToCheck};
+
+use crate::judge::judge_all;
+use crate::report::{good_count, report};
+use chyp_base::{NoMemory, Status, Steps, Verdict};
+use chyp_lex::{every_text_has_one_token_list, lex};
+use chyp_syntax::{chunks, each_chunk_has_one_tree_or_none, each_text_has_one_list_of_chunks};
+use chyp_theory::{derivations_are_equations, wires_are_permutations};
+use std::alloc::Global;
+use std::sync::ledger::Ledger;
+
+/// The report of a text, and the status that it gives.
+#[derive(Drop)]
+pub struct Checked {
+    pub report: Vec<u8>,
+    pub status: Status,
+}
+
+// Done exactly where each statement is good.
+fn status_of(verdicts: &[Verdict]) -> Status
+    ensures { result ≡ status_of verdicts.now }
+{
+    if good_count(verdicts) == verdicts.len() {
+        Status::Done
+    } else {
+        Status::SomeNotGood
+    }
+}
+
+/// For each text there is exactly one output, and its checks are its statements.
+pub fn each_text_has_one_output()
+    ensures one { EachTextHasOneOutput }
+    ensures counts { CountsStatements }
+{
+    every_text_has_one_token_list();
+    each_text_has_one_list_of_chunks();
+    each_chunk_has_one_tree_or_none();
+    derivations_are_equations();
+    wires_are_permutations();
+}
+
+/// Checks each statement of a text, at one step each, and makes the report.
+pub fn check_text<G: Ledger>(
+    alloc: Global,
+    text: &[u8],
+    steps: &mut Steps<G>,
+) -> Result<Checked, NoMemory>
+    requires { length text.now ≤ text_limit }
+    ensures checks { IfOk result (λ checked. Checks text.now checked.report.items checked.status steps.old steps.new) }
+    ensures begins { OnErr result (BeginsToCheck text.now steps.old steps.new) }
+{
+    each_text_has_one_output();
+    let tokens = lex(alloc, text, b"")?;
+    let chunks = chunks(alloc, &tokens)?;
+    let verdicts = judge_all(alloc, text, &tokens, &chunks, steps)?;
+    let report = report(alloc, text, &tokens, &chunks, &verdicts)?;
+    let status = status_of(&verdicts);
+    Ok(Checked { report, status })
+}

@@ -1,0 +1,9 @@
+pub mod Causes
+pub mod Library
+pub mod MemLibrary
+pub mod MemSink
+pub mod MemSource
+pub mod Sort
+pub mod Status
+pub mod StdSink
+pub mod Verdict

@@ -1,0 +1,7 @@
+pub mod Repeats
+pub mod Names
+pub mod Pieces
+pub mod TokenLists
+pub mod NameSteps
+pub mod NumberSteps
+pub mod LexemeSteps

@@ -1,0 +1,4 @@
+pub mod Marks
+pub mod Permuted
+pub mod Closure
+mod Examples

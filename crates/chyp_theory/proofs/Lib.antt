@@ -1,0 +1,16 @@
+pub mod Positions
+pub mod Running
+pub mod Congruence
+pub mod Soundness
+pub mod Renaming
+pub mod Inverses
+pub mod Arrows
+pub mod Wires
+pub mod Fronts
+pub mod Layers
+pub mod Factoring
+pub mod Tracking
+pub mod Peeling
+pub mod Cancelling
+pub mod Separation
+pub mod Completeness
