@@ -7,7 +7,7 @@ use Rattle.chyp_syntax.specs.Sentence.{NumberedToken, IsAtom, an_id, a_swap, Are
 use Rattle.chyp_syntax.specs.Statement.{StatementTree}
 use Rattle.chyp_term.specs.Perm.{IsPermutation}
 use Rattle.chyp_theory.proofs.Arrows.{id_perm}
-use Rattle.chyp_theory.proofs.Inverses.{to_perm, Undoes-swapped}
+use Rattle.chyp_term.proofs.Inverses.{to_perm, Undoes-swapped}
 use Rattle.chyp_term.specs.Morphism.{Morphism, then, beside}
 use Rattle.chyp_app.specs.Expansion.{expansion_of, expansions_of, halved_by}
 use Rattle.chyp_app.specs.Plain.{IsPlain, width_of}

@@ -1,5 +1,5 @@
 -- Permutations are closed under composition, and under standing side by side.
-use Rattle.std.proofs.Common.{ℕ, zero, suc, ◌+◌, ◌-◌, ◌<◌, ◌≤◌, ◌≡◌, List, [], ◌∷◌, ◌++◌, length, take, Some, slice_get, slice_index, ◌⊎◌, inl, inr, refl, sym, ◌∙◌, ap, ap₂, subst, arith, length-append}
+use Rattle.std.proofs.Common.{ℕ, zero, suc, ◌+◌, ◌-◌, ◌<◌, ◌≤◌, ◌≡◌, List, [], ◌∷◌, ◌++◌, length, take, get_or, Some, slice_get, slice_index, ◌⊎◌, inl, inr, refl, sym, ◌∙◌, ap, ap₂, subst, arith, length-append}
 use Rattle.std.specs.List.{cons_option}
 use Rattle.std.proofs.lemmas.List.{take_more, length-map, get_or-map, get_or_append_left, get_or-append_right}
 use Rattle.std.proofs.lemmas.Bool.{cases_lt}
@@ -84,8 +84,17 @@ stood_beside p q r t u e =
     let v : IsPermutation (length p + length q) (p ++ shifted (length p) q) = beside_perm (length p) (length q) p q t u in
     subst (λ l. IsPermutation (length l) l) (sym e) (subst (λ n. IsPermutation n (p ++ shifted (length p) q)) (sym v.size) v)
 
+-- `slice_get` where the item is known
+pub get-item : {A : Type 0} (xs : List A) (k : ℕ) (x : A) → k < length xs → x ≡ get_or xs k x → slice_get xs k ≡ Some x
+get-item xs k x h e = get_at xs k x h ∙ ap Some (sym e)
+  where
+    get_at : {A : Type 0} (xs : List A) (k : ℕ) (d : A) → k < length xs → slice_get xs k ≡ Some (get_or xs k d)
+    get_at [] k d h = absurd (omega arith)
+    get_at (y ∷ xs) zero d h = refl
+    get_at (y ∷ xs) (suc k) d h = get_at xs k d (omega arith)
+
 -- one more place takes one more item
-pub permuted-more : (xs p taken new : List ℕ) (i : ℕ) → i < length p → slice_index p i < length xs → taken ≡ permuted xs (take i p) → new ≡ taken ++ slice_index xs (slice_index p i) ∷ [] → new ≡ permuted xs (take (i + 1) p)
-permuted-more xs p taken new i h l t n =
-    n ∙ ap (λ r. r ++ slice_index xs (slice_index p i) ∷ []) t
-    ∙ sym (ap (permuted xs) (take_more p i 0 h) ∙ permuted-append xs (take i p) (slice_index p i ∷ []) ∙ ap (λ o. permuted xs (take i p) ++ cons_option o []) (get-index xs (slice_index p i) l))
+pub permuted-more : {A : Type 0} (xs : List A) (p : List ℕ) (taken new : List A) (i : ℕ) (x y : A) → i < length p → slice_get xs (slice_index p i) ≡ Some x → y ≡ x → taken ≡ permuted xs (take i p) → new ≡ taken ++ y ∷ [] → new ≡ permuted xs (take (i + 1) p)
+permuted-more xs p taken new i x y h g e t n =
+    n ∙ ap₂ (λ r z. r ++ z ∷ []) t e
+    ∙ sym (ap (permuted xs) (take_more p i 0 h) ∙ permuted-append xs (take i p) (slice_index p i ∷ []) ∙ ap (λ o. permuted xs (take i p) ++ cons_option o []) g)

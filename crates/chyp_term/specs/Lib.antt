@@ -4,3 +4,7 @@ pub mod Term
 pub mod Wiring
 pub mod Derivation
 pub mod Rewriting
+pub mod Positions
+pub mod Measure
+pub mod Equation
+pub mod Step

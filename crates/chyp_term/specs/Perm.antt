@@ -23,3 +23,9 @@ shifted n p = map (λ k. n + k) p
 -- the permutation that swaps a block of m wires with the block of n wires after it
 abbrev pub swapped : ℕ → ℕ → List ℕ
 swapped m n = count_from m n ++ count_from 0 m
+
+-- q is the inverse of p: it is as long, and each of them after the other moves nothing
+pub record IsInverse (p q : List ℕ) : Type 0 where
+  pub size : length q ≡ length p
+  pub after : permuted p q ≡ count_from 0 (length p)
+  pub before : permuted q p ≡ count_from 0 (length p)

@@ -1,6 +1,6 @@
 // Permutations of wires.
-ghost use Rattle.std.specs.Prelude.{ℕ, ◌≡◌, ◌<◌, ◌+◌, ◌^◌, ◌↔◌, ◌++◌, length, slice_index, IfOk, IfSome, IsSome};
-ghost use Rattle.chyp_term.specs.Perm.{IsPermutation, permuted, shifted};
+ghost use Rattle.std.specs.Prelude.{ℕ, ◌≡◌, ◌<◌, ◌≤◌, ◌+◌, ◌-◌, ◌^◌, ◌↔◌, ◌++◌, length, slice_index, IfOk, IfSome, IsSome, OnOk};
+ghost use Rattle.chyp_term.specs.Perm.{IsInverse, IsPermutation, count_from, permuted, shifted, swapped};
 
 use crate::Places;
 use chyp_base::NoMemory;
@@ -50,7 +50,11 @@ impl Perm {
 
     /// This permutation and then the next: `[p[q0], p[q1], ..]`, as the composite of two
     /// permutations is in a PROP (Mac Lane, Categories for the Working Mathematician, XI). Both
-    /// have one length; `NoMemory` alone can go wrong.
+    /// have one length.
+    ///
+    /// # Errors
+    ///
+    /// `NoMemory` where its places can't be kept.
     pub fn compose(&self, next: &Perm) -> Result<Perm, NoMemory>
         requires { length self.now ≡ length next.now }
         ensures { IfOk result (λ composed. composed ≡ permuted self.now next.now) }
@@ -62,12 +66,62 @@ impl Perm {
     }
 
     /// This permutation beside the other one, whose places are moved on by the length of this one:
-    /// the tensor of two permutations in a PROP. `NoMemory` alone can go wrong.
+    /// the tensor of two permutations in a PROP.
+    ///
+    /// # Errors
+    ///
+    /// `NoMemory` where its places can't be kept.
     pub fn beside(&self, other: &Perm) -> Result<Perm, NoMemory>
         requires { length self.now + length other.now < 2 ^ 32 }
         ensures { IfOk result (λ both. both ≡ self.now ++ shifted (length self.now) other.now) }
     {
         let places = places_beside(self.places.allocator(), self.places(), other.places())?;
+        Ok(Perm {
+            places: Places::from_vec(places),
+        })
+    }
+
+    /// The inverse: the permutation that sends each wire back to where this one took it from.
+    ///
+    /// # Errors
+    ///
+    /// `NoMemory` where its places can't be kept.
+    pub fn invert(&self) -> Result<Perm, NoMemory>
+        ensures { IfOk result (λ inverse. IsInverse self.now inverse) }
+    {
+        let places = inverse_places(self.places.allocator(), self.places())?;
+        Ok(Perm {
+            places: Places::from_vec(places),
+        })
+    }
+
+    /// The permutation that swaps a block of `m` wires with the block of `n` wires after it: the
+    /// symmetry of a PROP.
+    ///
+    /// # Errors
+    ///
+    /// `NoMemory` where its places can't be kept.
+    pub fn block_swap(alloc: Global, m: u32, n: u32) -> Result<Perm, NoMemory>
+        requires { m + n < 2 ^ 32 }
+        ensures { IfOk result (λ swap. swap ≡ swapped m n) }
+    {
+        let mut places = Vec::with_capacity(alloc, (m + n) as usize)?;
+        push_range(&mut places, m, m + n)?;
+        push_range(&mut places, 0, m)?;
+        Ok(Perm {
+            places: Places::from_vec(places),
+        })
+    }
+
+    /// An equal permutation.
+    ///
+    /// # Errors
+    ///
+    /// `NoMemory` where its places can't be kept.
+    pub fn copy(&self) -> Result<Perm, NoMemory>
+        ensures { IfOk result (λ copied. copied ≡ self.now) }
+    {
+        let places = Vec::from_slice(self.places.allocator(), self.places())?;
         Ok(Perm {
             places: Places::from_vec(places),
         })
@@ -98,4 +152,28 @@ fn places_beside(alloc: Global, places: &[u32], others: &[u32]) -> Result<Vec<u3
         both.push(places.len() as u32 + *place)?;
     }
     Ok(both)
+}
+
+/// The places of the inverse of a permutation: at each of its places the number of that place.
+fn inverse_places(alloc: Global, places: &[u32]) -> Result<Vec<u32>, AllocError>
+    requires { IsPermutation (length places.now) places.now }
+    ensures inverse { IfOk result (λ inverse. IsInverse places.now inverse.items) }
+    ensures permutation { IfOk result (λ inverse. IsPermutation (length inverse.items) inverse.items) }
+{
+    let mut inverse = vec![in alloc; 0; places.len()]?;
+    for i in 0..places.len() {
+        inverse[places[i] as usize] = i as u32;
+    }
+    Ok(inverse)
+}
+
+/// Appends the numbers from `start` on that are below `end`.
+fn push_range(places: &mut Vec<u32>, start: u32, end: u32) -> Result<(), AllocError>
+    requires { start ≤ end }
+    ensures { OnOk result (places.new.items ≡ places.old.items ++ count_from start (end - start)) }
+{
+    for place in start..end {
+        places.push(place)?;
+    }
+    Ok(())
 }

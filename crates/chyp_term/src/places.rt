@@ -20,18 +20,25 @@ impl Model for Places {
 }
 
 impl Places {
-    /// The list of the given places.
+    /// The list of these places. It takes no memory.
     pub fn from_vec(places: Vec<u32>) -> Places
         ensures { result ≡ places.items }
     {
         Places { items: places }
     }
 
-    /// The places in order.
+    /// The places, in order.
     pub fn as_slice(&self) -> &[u32]
         ensures { result.now ≡ self.now }
     {
         &self.items
+    }
+
+    /// Gives the places back. It takes no memory.
+    pub fn into_vec(self) -> Vec<u32>
+        ensures { result.items ≡ self }
+    {
+        self.items
     }
 
     /// The allocator that the list was made with.

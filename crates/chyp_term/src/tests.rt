@@ -1,7 +1,10 @@
 ghost use Rattle.std.specs.Prelude.{◌≡◌, IfOk};
 
-use crate::{Perm, Places, Shape, Term};
-use chyp_base::{Name, NoMemory, Sort, Sorts};
+use crate::{
+    Equation, Equations, Perm, Places, Shape, ShapeError, Step, StepList, Term, Terms, copy, depth,
+    gens, shape_of, size,
+};
+use chyp_base::{Name, Sort, Sorts};
 use std::alloc::Global;
 use std::test::Fail;
 
@@ -15,12 +18,36 @@ fn permutation(alloc: Global, places: &[u32]) -> Result<Perm, Fail>
     }
 }
 
-fn one_wire(alloc: Global) -> Result<Sorts, Fail> {
+fn wires(alloc: Global, count: usize) -> Result<Sorts, Fail> {
     let mut sorts = Vec::new(alloc);
-    sorts.push(Sort {
-        name: Name::new(alloc, "wire")?,
-    })?;
+    for _ in 0..count {
+        sorts.push(Sort::plain(alloc)?)?;
+    }
     Ok(Sorts::from_vec(sorts))
+}
+
+// The generator `m : 2 -> 1`.
+fn product(alloc: Global) -> Result<Term, Fail> {
+    Ok(Term::Gen {
+        name: Name::new(alloc, "m")?,
+        dom: wires(alloc, 2)?,
+        cod: wires(alloc, 1)?,
+    })
+}
+
+fn crossing(alloc: Global) -> Result<Term, Fail> {
+    Ok(Term::Perm {
+        sorts: wires(alloc, 2)?,
+        perm: permutation(alloc, &[1, 0])?,
+    })
+}
+
+fn in_a_row(alloc: Global, first: Term, second: Term) -> Result<Term, Fail> {
+    Ok(Term::Seq(Box::new(alloc, first)?, Box::new(alloc, second)?))
+}
+
+fn side_by_side(alloc: Global, left: Term, right: Term) -> Result<Term, Fail> {
+    Ok(Term::Par(Box::new(alloc, left)?, Box::new(alloc, right)?))
 }
 
 #[test]
@@ -36,6 +63,22 @@ fn permutations_compose_and_stand_beside_each_other(rt: HostRuntime) -> Result<(
 }
 
 #[test]
+fn a_permutation_has_an_inverse_and_a_copy(rt: HostRuntime) -> Result<(), Fail> {
+    let alloc = rt.alloc();
+    let turned = permutation(alloc, &[1, 2, 0])?;
+    assert_eq!(rt; turned.invert()?.places(), [2, 0, 1].as_slice());
+    assert_eq!(rt; turned.copy()?.places(), [1, 2, 0].as_slice());
+    Ok(())
+}
+
+#[test]
+fn two_blocks_of_wires_are_swapped(rt: HostRuntime) -> Result<(), Fail> {
+    let swap = Perm::block_swap(rt.alloc(), 1, 2)?;
+    assert_eq!(rt; swap.places(), [1, 2, 0].as_slice());
+    Ok(())
+}
+
+#[test]
 fn places_that_are_no_permutation_are_refused(rt: HostRuntime) -> Result<(), Fail> {
     let alloc = rt.alloc();
     for (places, good) in [
@@ -46,28 +89,92 @@ fn places_that_are_no_permutation_are_refused(rt: HostRuntime) -> Result<(), Fai
     ] {
         let places = Places::from_vec(Vec::from_slice(alloc, &places)?);
         assert_eq!(rt; places.as_slice().len(), 2);
+        let places = Places::from_vec(places.into_vec());
         assert_eq!(rt; Perm::new(places).is_some(), good);
     }
     Ok(())
 }
 
+// The term `(sw ; m) * sw`, typed from four wires to three.
+fn typed_term(alloc: Global) -> Result<Term, Fail> {
+    let row = in_a_row(alloc, crossing(alloc)?, product(alloc)?)?;
+    side_by_side(alloc, row, crossing(alloc)?)
+}
+
+fn three_wires_for_two_places(alloc: Global) -> Result<Term, Fail> {
+    Ok(Term::Perm {
+        sorts: wires(alloc, 3)?,
+        perm: permutation(alloc, &[1, 0])?,
+    })
+}
+
+fn clashes(alloc: Global, term: Term) -> bool {
+    matches!(shape_of(alloc, &term), Err(ShapeError::Clash))
+}
+
 #[test]
-fn a_term_is_a_tree(rt: HostRuntime) -> Result<(), Fail> {
+fn a_term_has_a_type_or_a_clash(rt: HostRuntime) -> Result<(), Fail> {
     let alloc = rt.alloc();
-    let shape = Shape {
-        dom: one_wire(alloc)?,
-        cod: one_wire(alloc)?,
-    };
-    let generator = Term::Gen {
-        name: Name::new(alloc, "f")?,
-        dom: shape.dom,
-        cod: shape.cod,
-    };
-    let wire = Term::Perm {
-        sorts: one_wire(alloc)?,
-        perm: permutation(alloc, &[0])?,
-    };
-    let both = Term::Seq(Box::new(alloc, generator)?, Box::new(alloc, wire)?);
-    assert!(rt; matches!(both, Term::Seq(_, _)));
+    let term = typed_term(alloc)?;
+    let Shape { dom, cod } = shape_of(alloc, &term).map_err(|_| Fail::new("no type"))?;
+    assert_eq!(rt; [dom.as_slice().len(), cod.as_slice().len()], [4, 3]);
+    Ok(())
+}
+
+#[test]
+fn a_term_that_is_not_typed_clashes(rt: HostRuntime) -> Result<(), Fail> {
+    let alloc = rt.alloc();
+    let row = in_a_row(alloc, product(alloc)?, product(alloc)?)?;
+    assert!(rt; clashes(alloc, row));
+    assert!(rt; clashes(alloc, three_wires_for_two_places(alloc)?));
+    Ok(())
+}
+
+fn written(alloc: Global, term: &Term) -> Result<String, Fail> {
+    Ok(format!(in alloc; "{term:?}")?)
+}
+
+#[test]
+fn a_copy_is_equal_and_as_big(rt: HostRuntime) -> Result<(), Fail> {
+    let alloc = rt.alloc();
+    let term = typed_term(alloc)?;
+    let copied = copy(alloc, &term)?;
+    assert_eq!(rt; [size(&copied), depth(&copied), gens(&copied)], [12, 3, 1]);
+    assert_eq!(rt; written(alloc, &copied)?, written(alloc, &term)?);
+    Ok(())
+}
+
+fn equation(alloc: Global) -> Result<Equation, Fail> {
+    Ok(Equation {
+        left: product(alloc)?,
+        right: typed_term(alloc)?,
+    })
+}
+
+fn equation_list(alloc: Global) -> Result<Equations, Fail> {
+    Ok(Equations::from_vec(Vec::from_array(alloc, [equation(alloc)?])?))
+}
+
+fn term_list(alloc: Global) -> Result<Terms, Fail> {
+    Ok(Terms::from_vec(Vec::from_array(alloc, [product(alloc)?])?))
+}
+
+fn step_list(alloc: Global) -> Result<StepList, Fail> {
+    let mut steps = Vec::new(alloc);
+    steps.push(Step::Refl)?;
+    steps.push(Step::ByRule(equation(alloc)?))?;
+    steps.push(Step::Simp(equation_list(alloc)?))?;
+    Ok(StepList::from_vec(steps))
+}
+
+#[test]
+fn lists_show_and_give_back_what_they_hold(rt: HostRuntime) -> Result<(), Fail> {
+    let alloc = rt.alloc();
+    let terms = Terms::from_vec(term_list(alloc)?.into_vec());
+    assert_eq!(rt; terms.as_slice().len(), 1);
+    let equations = Equations::from_vec(equation_list(alloc)?.into_vec());
+    assert_eq!(rt; equations.as_slice().len(), 1);
+    let steps = StepList::from_vec(step_list(alloc)?.into_vec());
+    assert_eq!(rt; steps.as_slice().len(), 3);
     Ok(())
 }

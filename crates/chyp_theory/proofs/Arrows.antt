@@ -6,7 +6,7 @@ use Rattle.chyp_term.specs.Morphism.{Morphism, generator, permutation, then, bes
 use Rattle.chyp_term.specs.Derivation.{identity, empty, swap, then_assoc, then_left, then_right, beside_assoc, beside_right, interchange, perm_then, perm_beside, slide, Derives, same, in_then, by_law}
 use Rattle.chyp_term.proofs.Permuted.{permuted-all, permuted-swapped, length-permuted}
 use Rattle.chyp_term.proofs.Closure.{Under-perm, compose_perm, beside_perm}
-use Rattle.chyp_theory.proofs.Inverses.{Undoes-id, Undoes-swapped, to_perm}
+use Rattle.chyp_term.proofs.Inverses.{Undoes-id, Undoes-swapped, to_perm}
 
 abbrev pub Equal : Morphism → Morphism → Type 0
 Equal s t = Derives [] s t

@@ -8,7 +8,7 @@ use Rattle.chyp_term.specs.Morphism.{Morphism, generator, beside, dom, IsTyped}
 use Rattle.chyp_term.specs.Derivation.{identity}
 use Rattle.chyp_theory.proofs.Running.{EdgeOf, label_of, run, src, Alike}
 use Rattle.chyp_term.proofs.Permuted.{Under, permuted-all, permuted-permuted, length-permuted, drop-left}
-use Rattle.chyp_theory.proofs.Inverses.{Undoes, from_perm, permuted-count}
+use Rattle.chyp_term.proofs.Inverses.{Undoes, from_perm, permuted-count}
 use Rattle.chyp_theory.proofs.Renaming.{map-run, map-src}
 use Rattle.chyp_theory.proofs.Peeling.{fronted}
 

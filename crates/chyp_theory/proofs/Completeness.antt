@@ -9,7 +9,7 @@ use Rattle.chyp_theory.proofs.Running.{EdgeOf, Label, label_of, src, Alike}
 use Rattle.chyp_term.proofs.Permuted.{Under, permuted-all, permuted-map, length-count_from}
 use Rattle.chyp_term.proofs.Closure.{Under-perm}
 use Rattle.chyp_theory.proofs.Congruence.{Alike-trans, Alike-sym}
-use Rattle.chyp_theory.proofs.Inverses.{permuted-numbers}
+use Rattle.chyp_term.proofs.Inverses.{permuted-numbers}
 use Rattle.chyp_theory.proofs.Fronts.{Differs, differ}
 use Rattle.chyp_theory.proofs.Renaming.{In, Target}
 use Rattle.chyp_theory.proofs.Soundness.{sound}

@@ -1,15 +1,17 @@
 -- Permutations by their fronts: distinct places can be brought to the front, what fixes the front permutes the rest, and two
 -- permutations with one front differ by a permutation of the rest.
-use Rattle.std.proofs.Common.{ℕ, zero, suc, ◌+◌, ◌-◌, ◌<◌, ◌≤◌, ◌≡◌, Bool, true, false, not, cond, eqb, ◌||◌, List, [], ◌∷◌, ◌++◌, map, length, take, drop, filter, Option, Some, None, option_map, slice_get, slice_index, ◌⊎◌, inl, inr, refl, sym, ◌∙◌, ap, ap₂, subst, arith, eq-eqb, ne_eqb, take-append-drop, length-drop, get_or-take, get_or-drop}
+use Rattle.std.proofs.Common.{ℕ, zero, suc, ◌+◌, ◌-◌, ◌<◌, ◌≤◌, ◌≡◌, true, not, eqb, List, [], ◌∷◌, ◌++◌, map, length, take, drop, Option, Some, None, slice_index, ◌⊎◌, inl, inr, refl, sym, ◌∙◌, ap, ap₂, subst, arith, take-append-drop, length-drop, get_or-take, get_or-drop}
 use Rattle.std.proofs.lemmas.List.{length-map, get_or-map}
-use Rattle.std.proofs.lemmas.Bool.{cases_lt, cases_Bool}
-use Rattle.std.specs.List.{IsDistinct, AllByRecursion, list_any}
+use Rattle.std.proofs.lemmas.Bool.{cases_lt}
+use Rattle.std.specs.List.{IsDistinct, list_any}
 use Rattle.std.proofs.lemmas.Map.Steps.{length-le_from_distinct_below, le-length_from_below}
-use Rattle.chyp_term.specs.Perm.{IsPermutation, permuted, count_from, shifted}
-use Rattle.chyp_theory.proofs.Positions.{place_of, is_there, is_apart, upto, kept-get, Under-filter, apart-none}
+use Rattle.chyp_term.specs.Perm.{IsPermutation, count_from, permuted, shifted}
+use Rattle.chyp_term.specs.Positions.{is_apart, is_there, place_of}
+use Rattle.chyp_term.proofs.Closure.{Under-perm, compose_perm, index-get}
+use Rattle.chyp_term.proofs.Distinct.{all-filter, any-append_left, any-append_right, any-get, distinct-append, distinct-filter, distinct-index}
+use Rattle.chyp_term.proofs.Inverses.{Under-append, Under-index, Undoes, Undoes-sym, any-below, from_perm, get-count0, permuted-numbers, place-found, to_perm}
 use Rattle.chyp_term.proofs.Permuted.{Under, found, permuted-permuted}
-use Rattle.chyp_term.proofs.Closure.{Under-perm, index-get, compose_perm}
-use Rattle.chyp_theory.proofs.Inverses.{Undoes, Undoes-sym, from_perm, to_perm, permuted-numbers, get-count0, Under-append, Under-index, any-below, place-found}
+use Rattle.chyp_term.proofs.Positions.{Under-filter, apart-none, kept-get, upto}
 
 pub count-index : (n i : ℕ) → i < n → slice_index (count_from 0 n) i ≡ i
 count-index n i h = index-get (count_from 0 n) i i (get-count0 n i h)
@@ -51,88 +53,6 @@ fixes_front m n v t f = (w, record { size = w_size; within = λ i h. rw (w_at i 
 
     v_is : v ≡ count_from 0 m ++ shifted m w
     v_is = sym (take-append-drop m v) ∙ ap₂ (λ a b. a ++ b) f (same (drop m v) (λ i l. subst (λ x. m ≤ x) (sym (get_or-drop m v i 0)) (past i (subst (λ z. i < z) rest_size l))))
-
-pub place-off : (x y : ℕ) (s : List ℕ) → place_of y (x ∷ s) ≡ None → (eqb x y ≡ false) × (place_of y s ≡ None)
-place-off x y s e = go (cases_Bool (eqb x y))
-  where
-    back : (o : Option ℕ) → option_map suc o ≡ None → o ≡ None
-    back None e = refl
-    back (Some i) e = cc
-
-    go : (eqb x y ≡ true) ⊎ (eqb x y ≡ false) → (eqb x y ≡ false) × (place_of y s ≡ None)
-    go (inl b) = let f : ◌≡◌ {A = Option ℕ} (Some 0) None = ap (λ c. cond c (Some 0) (option_map suc (place_of y s))) (sym b) ∙ e in cc
-    go (inr b) = (b, back (place_of y s) (ap (λ c. cond c (Some 0) (option_map suc (place_of y s))) (sym b) ∙ e))
-
-pub all-append : {A : Type 0} (P : A → Type 0) (xs ys : List A) → AllByRecursion P xs → AllByRecursion P ys → AllByRecursion P (xs ++ ys)
-all-append P [] ys a b = b
-all-append P (x ∷ xs) ys a b = (a.0, all-append P xs ys a.1 b)
-
-pub all-map : {A : Type 0} (P Q : A → Type 0) → ((x : A) → P x → Q x) → (xs : List A) → AllByRecursion P xs → AllByRecursion Q xs
-all-map P Q f [] a = tt
-all-map P Q f (x ∷ xs) a = (f x a.0, all-map P Q f xs a.1)
-
-pub distinct-append : (s q : List ℕ) → IsDistinct eqb s → IsDistinct eqb q → AllByRecursion (λ y. place_of y s ≡ None) q → IsDistinct eqb (s ++ q)
-unfolding IsDistinct
-distinct-append [] q a b c = b
-distinct-append (x ∷ s) q a b c = (
-  all-append (λ y. eqb x y ≡ false) s q a.0 (all-map (λ y. place_of y (x ∷ s) ≡ None) (λ y. eqb x y ≡ false) (λ y e. (place-off x y s e).0) q c),
-  distinct-append s q a.1 b (all-map (λ y. place_of y (x ∷ s) ≡ None) (λ y. place_of y s ≡ None) (λ y e. (place-off x y s e).1) q c),
-)
-
-pub all-filter : (p : ℕ → Bool) (P : ℕ → Type 0) (k n : ℕ) → ((i : ℕ) → k ≤ i → i < k + n → p i ≡ true → P i) → AllByRecursion P (filter p (count_from k n))
-all-filter p P k zero h = tt
-all-filter p P k (suc n) h = go (p k) refl (all-filter p P (suc k) n (λ i a b e. h i (omega arith) (omega arith) e))
-  where
-    go : (b : Bool) → p k ≡ b → AllByRecursion P (filter p (count_from (suc k) n)) → AllByRecursion P (cond b (k ∷ filter p (count_from (suc k) n)) (filter p (count_from (suc k) n)))
-    go true e a = (h k (omega arith) (omega arith) e, a)
-    go false e a = a
-
-pub distinct-filter : (p : ℕ → Bool) (k n : ℕ) → IsDistinct eqb (filter p (count_from k n))
-unfolding IsDistinct
-distinct-filter p k zero = tt
-distinct-filter p k (suc n) = go (p k) (distinct-filter p (suc k) n)
-  where
-    go : (b : Bool) → IsDistinct eqb (filter p (count_from (suc k) n)) → IsDistinct eqb (cond b (k ∷ filter p (count_from (suc k) n)) (filter p (count_from (suc k) n)))
-    go true a = (all-filter p (λ y. eqb k y ≡ false) (suc k) n (λ i b c e. ne_eqb k i (λ q. omega arith)), a)
-    go false a = a
-
-pub any-append_left : (k : ℕ) (s q : List ℕ) → list_any (eqb k) s ≡ true → list_any (eqb k) (s ++ q) ≡ true
-any-append_left k [] q e = cc
-any-append_left k (x ∷ s) q e = go (eqb k x) (any-append_left k s q) e
-  where
-    go : (b : Bool) → (list_any (eqb k) s ≡ true → list_any (eqb k) (s ++ q) ≡ true) → (b || list_any (eqb k) s) ≡ true → (b || list_any (eqb k) (s ++ q)) ≡ true
-    go true ih e = refl
-    go false ih e = ih e
-
-pub any-append_right : (k : ℕ) (s q : List ℕ) → list_any (eqb k) q ≡ true → list_any (eqb k) (s ++ q) ≡ true
-any-append_right k [] q e = e
-any-append_right k (x ∷ s) q e = go (eqb k x) (any-append_right k s q e)
-  where
-    go : (b : Bool) → list_any (eqb k) (s ++ q) ≡ true → (b || list_any (eqb k) (s ++ q)) ≡ true
-    go true e = refl
-    go false e = e
-
-pub any-get : (k : ℕ) (s : List ℕ) (j : ℕ) → slice_get s j ≡ Some k → list_any (eqb k) s ≡ true
-any-get k [] j e = cc
-any-get k (x ∷ s) zero e = let q : k ≡ x = cc in rw (eq-eqb k x q) refl
-any-get k (x ∷ s) (suc j) e = go (eqb k x) (any-get k s j e)
-  where
-    go : (b : Bool) → list_any (eqb k) s ≡ true → (b || list_any (eqb k) s) ≡ true
-    go true e = refl
-    go false e = e
-
-pub all-index : (x : ℕ) (xs : List ℕ) → AllByRecursion (λ y. eqb x y ≡ false) xs → (i : ℕ) → i < length xs → x ≡ slice_index xs i → ⊥
-all-index x [] a i h e = omega arith
-all-index x (y ∷ xs) a zero h e = let q = eq-eqb x y e in let r = a.0 in cc
-all-index x (y ∷ xs) a (suc i) h e = all-index x xs a.1 i (omega arith) e
-
-pub distinct-index : (xs : List ℕ) → IsDistinct eqb xs → (i j : ℕ) → i < length xs → j < length xs → slice_index xs i ≡ slice_index xs j → i ≡ j
-unfolding IsDistinct
-distinct-index [] d i j h l e = absurd (omega arith)
-distinct-index (x ∷ xs) d zero zero h l e = refl
-distinct-index (x ∷ xs) d zero (suc j) h l e = absurd (all-index x xs d.0 j (omega arith) e)
-distinct-index (x ∷ xs) d (suc i) zero h l e = absurd (all-index x xs d.0 i (omega arith) (sym e))
-distinct-index (x ∷ xs) d (suc i) (suc j) h l e = ap suc (distinct-index xs d.1 i j (omega arith) (omega arith) e)
 
 -- distinct places, brought to the front
 pub bring : (n : ℕ) (s : List ℕ) → Under n s → IsDistinct eqb s → (q : List ℕ) × IsPermutation n (s ++ q)

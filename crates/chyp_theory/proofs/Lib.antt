@@ -1,9 +1,7 @@
-pub mod Positions
 pub mod Running
 pub mod Congruence
 pub mod Soundness
 pub mod Renaming
-pub mod Inverses
 pub mod Arrows
 pub mod Wires
 pub mod Fronts

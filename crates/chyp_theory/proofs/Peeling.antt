@@ -11,13 +11,13 @@ use Rattle.chyp_theory.proofs.Running.{EdgeOf, run, src}
 use Rattle.chyp_term.proofs.Permuted.{permuted-shifted, length-permuted, Under, permuted-all, length-count_from, take-left}
 use Rattle.chyp_term.proofs.Closure.{Under-perm}
 use Rattle.chyp_theory.proofs.Congruence.{length-run}
-use Rattle.chyp_theory.proofs.Inverses.{distinct, length-shifted, permuted-numbers, map-same}
+use Rattle.chyp_term.proofs.Inverses.{distinct, length-shifted, permuted-numbers, map-same}
 use Rattle.chyp_theory.proofs.Fronts.{bring, take-permuted}
 use Rattle.chyp_theory.proofs.Soundness.{sound}
 use Rattle.chyp_theory.proofs.Arrows.{Arrow, then_arrow, beside_arrow, id_arrow, perm_arrow, generator_arrow, equal-same, equal-perms}
 use Rattle.chyp_theory.proofs.Layers.{Layered, done, step, arrow_along, first_of_then, second_of_then}
 use Rattle.chyp_theory.proofs.Renaming.{Producer, In, Target, map-src}
-use Rattle.chyp_theory.proofs.Positions.{map-map}
+use Rattle.chyp_term.proofs.Positions.{map-map}
 use Rattle.chyp_theory.proofs.Factoring.{Split, split_off, re_from, re_to}
 use Rattle.chyp_theory.proofs.Tracking.{Tracked, tracked-same, tracked-chain, tracked-back, tracked-left, tracked-right, tracked-assoc_first, tracked-assoc_second, tracked-assoc_third, tracked-pass}
 

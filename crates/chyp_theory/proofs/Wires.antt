@@ -10,7 +10,7 @@ use Rattle.chyp_term.proofs.Closure.{Under-perm, compose_perm, beside_perm}
 use Rattle.chyp_theory.proofs.Running.{EdgeOf, run}
 use Rattle.chyp_theory.proofs.Congruence.{length-take_dom, length-drop_dom}
 use Rattle.chyp_theory.proofs.Soundness.{law_alike, sound, permuted-beside}
-use Rattle.chyp_theory.proofs.Inverses.{permuted-numbers}
+use Rattle.chyp_term.proofs.Inverses.{permuted-numbers}
 use Rattle.chyp_theory.proofs.Arrows.{Equal, length-cod, equal-perms, equal-perm_beside}
 
 -- derivable terms are typed, and have one type

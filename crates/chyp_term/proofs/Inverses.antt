@@ -5,7 +5,8 @@ use Rattle.std.proofs.lemmas.Bool.{cases_eq, cases_Bool, or_cases}
 use Rattle.std.specs.List.{IsDistinct, AllByRecursion, list_any}
 use Rattle.std.proofs.lemmas.Map.Steps.{length-le_from_distinct_below}
 use Rattle.chyp_term.specs.Perm.{IsPermutation, permuted, count_from, shifted, swapped}
-use Rattle.chyp_theory.proofs.Positions.{place_of, slice_get-length, count_from-append}
+use Rattle.chyp_term.specs.Positions.{place_of}
+use Rattle.chyp_term.proofs.Positions.{slice_get-length, count_from-append}
 use Rattle.chyp_term.proofs.Permuted.{Under, found, get_option, get-permuted, length-permuted, permuted-permuted, permuted-append, permuted-all, permuted-append_left, permuted-shifted, permuted-swapped, permuted-map, length-count_from, Under-count_from, count_from-0}
 use Rattle.chyp_term.proofs.Closure.{Under-perm, index-get, get-index}
 

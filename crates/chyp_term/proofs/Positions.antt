@@ -1,22 +1,10 @@
 -- Where numbers stand in lists of numbers, and the numbers below a bound that pass a test.
-use Rattle.std.proofs.Common.{ℕ, zero, suc, ◌+◌, ◌<◌, ◌≤◌, ◌≡◌, Bool, true, false, not, cond, eqb, List, [], ◌∷◌, ◌++◌, map, length, filter, Option, Some, None, option_map, slice_get, slice_index, ◌⊎◌, inl, inr, refl, sym, ◌∙◌, ap, ap₂, arith, add-zero, zero-add, add-suc, suc-add}
+use Rattle.std.proofs.Common.{ℕ, zero, suc, ◌+◌, ◌<◌, ◌≤◌, ◌≡◌, Bool, true, false, not, cond, List, [], ◌∷◌, ◌++◌, map, length, filter, Option, Some, None, slice_get, slice_index, ◌⊎◌, inl, inr, refl, sym, ◌∙◌, ap, ap₂, arith, add-zero, zero-add, add-suc, suc-add}
 use Rattle.std.proofs.lemmas.List.Elements.{filter-append}
 use Rattle.std.proofs.lemmas.Bool.{cases_lt}
 use Rattle.chyp_term.specs.Perm.{count_from}
+use Rattle.chyp_term.specs.Positions.{place_of, is_there, is_apart}
 use Rattle.chyp_term.proofs.Permuted.{Under, get-append_left, get-append_right}
-
--- the first place of w in ks
-abbrev pub place_of : ℕ → List ℕ → Option ℕ
-place_of w [] = None
-place_of w (k ∷ ks) = cond (eqb k w) (Some 0) (option_map suc (place_of w ks))
-
-abbrev pub is_there : Option ℕ → Bool
-is_there None = false
-is_there (Some k) = true
-
--- w is none of ks
-abbrev pub is_apart : List ℕ → ℕ → Bool
-is_apart ks w = not (is_there (place_of w ks))
 
 pub apart-none : (ks : List ℕ) (v : ℕ) → is_apart ks v ≡ true → place_of v ks ≡ None
 apart-none ks v e = go (place_of v ks) e

@@ -1,0 +1,13 @@
+pub mod Inner
+pub mod Equivalence
+pub mod Rearrangement
+pub mod Members
+pub mod Rounds
+pub mod ThenValid
+pub mod BesideValid
+pub mod Validity
+pub mod Ports
+pub mod Drafting
+pub mod Leaves
+pub mod Steps
+pub mod Numbering

@@ -1,0 +1,27 @@
+use Rattle.std.proofs.Common.{◌∙◌, ◌≡◌, ◌+◌, take, sym, subst, ap, length, All, ◌<◌}
+use Rattle.chyp_graph.specs.Graph.{IsTable}
+use Rattle.chyp_graph.specs.PortTable.{AreNoted}
+use Rattle.chyp_graph.proofs.Ports.{all-is, get-is, table-more, written-back}
+use Rattle.chyp_graph.proofs.port_table.consumers.Goals as goal
+
+pub note-requires-clause-within : goal.note-requires-clause-within
+note-requires-clause-within c =
+    let e = c.index-edges-k.result in
+    let p = all-is (λ e. (length e.sources < 4294967296) × All (λ w. w < c.args.wires) e.sources) c.args.edges.now c.loop-k.k e c.loop-k-test.true c.index-edges-k.is c.requires.ports in
+    let size : length c.deref_mut.result.now ≡ c.args.wires = ap length c.deref_mut.ensures.value ∙ c.loop-k.invariant.size in
+    subst (λ n. All (λ w. w < n) c.as_slice.result.now) (sym size) (subst (All (λ w. w < c.args.wires)) (sym c.as_slice.ensures) p.1)
+
+pub note-requires-clause-short : goal.note-requires-clause-short
+note-requires-clause-short c =
+    let e = c.index-edges-k.result in
+    let p = all-is (λ e. (length e.sources < 4294967296) × All (λ w. w < c.args.wires) e.sources) c.args.edges.now c.loop-k.k e c.loop-k-test.true c.index-edges-k.is c.requires.ports in
+    subst (λ l. length l < 4294967296) (sym c.as_slice.ensures) p.0
+
+pub loop-k-preserved : goal.loop-k-preserved
+loop-k-preserved c =
+    let e = c.index-edges-k.result in
+    let n = c.note.ensures in
+    let size : length c.note.new.table ≡ length c.loop-k.table.items = n.0 ∙ ap length c.deref_mut.ensures.value in
+    let noted = subst (λ l. AreNoted c.loop-k.k e.sources l c.note.new.table) c.deref_mut.ensures.value (subst (λ l. AreNoted c.loop-k.k l c.deref_mut.result.now c.note.new.table) c.as_slice.ensures n) in
+    subst (IsTable (λ e. e.sources) (take (c.loop-k.k + 1) c.args.edges.now) c.args.wires) (sym (written-back c.note.new.table c.loop-k.table.items c.loop-k.table.len c.loop-k.table.ok.0 size))
+    (table-more (λ e. e.sources) c.args.edges.now c.loop-k.k e c.args.wires c.loop-k.table.items c.note.new.table (get-is c.args.edges.now c.loop-k.k e c.loop-k-test.true c.index-edges-k.is) c.loop-k.invariant noted)

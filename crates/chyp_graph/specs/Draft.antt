@@ -1,0 +1,19 @@
+-- Graphs while they are drawn.
+use Rattle.std.specs.Prelude.{ℕ, List, ◌++◌}
+use Rattle.chyp_graph.specs.declared.draft.Draft.{Draft}
+use Rattle.chyp_graph.specs.PlainGraph.{PlainGraph}
+use Rattle.chyp_graph.specs.Composition.{then_graph}
+
+-- the plain graph that is drawn so far
+abbrev pub drawn : Draft → PlainGraph
+drawn d = record { wires = d.wires.items; edges = d.edges.items; inputs = d.inputs.items; outputs = d.outputs.items }
+
+-- h drawn behind the wires live of g: its outputs come after those of g
+abbrev pub followed : PlainGraph → List ℕ → PlainGraph → PlainGraph
+followed g live h =
+    record {
+      wires = (then_graph (record g { outputs = live }) h).wires;
+      edges = (then_graph (record g { outputs = live }) h).edges;
+      inputs = g.inputs;
+      outputs = g.outputs ++ (then_graph (record g { outputs = live }) h).outputs;
+    }

@@ -1,0 +1,9 @@
+pub mod PlainGraph
+pub mod Validity
+pub mod Composition
+pub mod GraphOf
+pub mod Isomorphism
+pub mod Graph
+pub mod PortTable
+pub mod Draft
+pub mod Joining

@@ -1,0 +1,8 @@
+-- Writing the ports of one edge into a table.
+use Rattle.std.specs.Prelude.{ℕ, ◌≡◌, true, List, length, Option, Some, slice_get, ◌⊎◌}
+use Rattle.chyp_term.specs.Positions.{is_apart}
+
+-- each of the wires is noted as a port of the edge, at a place where it stands in the list, and the rest stays
+abbrev pub AreNoted : ℕ → List ℕ → List (Option (ℕ × ℕ)) → List (Option (ℕ × ℕ)) → Type 0
+AreNoted edge wires before after = (length after ≡ length before) × ((w : ℕ) (entry : Option (ℕ × ℕ)) → slice_get after w ≡ Some entry
+    → ((slice_get before w ≡ Some entry) × (is_apart wires w ≡ true)) ⊎ ((i : ℕ) × (entry ≡ Some (edge, i)) × (slice_get wires i ≡ Some w)))

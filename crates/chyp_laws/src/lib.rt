@@ -1,0 +1,46 @@
+//! What graphs say of the laws of symmetric monoidal categories: law functions, whose bodies are
+//! empty.
+//!
+//! `derivation_gives_same` says that two terms which the laws derive have isomorphic graphs, and
+//! `same_gives_derivation` that two typed terms with isomorphic graphs have a derivation; each is
+//! called for two given terms. `graphs_decide_the_laws` says both over all terms, and that the graph
+//! of a typed term is valid. A derivation is that of `chyp_term`, which names no graph; the graph of
+//! a term and isomorphism are those of `chyp_graph`.
+#![tactic(auto)]
+
+ghost use Rattle.std.specs.Prelude.{[]};
+ghost use Rattle.chyp_term.specs.Derivation.{Derives};
+ghost use Rattle.chyp_term.specs.Morphism.{IsTyped};
+ghost use Rattle.chyp_term.specs.Term.{morphism_of};
+ghost use Rattle.chyp_graph.specs.GraphOf.{graph_of};
+ghost use Rattle.chyp_graph.specs.Isomorphism.{Isomorphic};
+ghost use Rattle.chyp_laws.specs.Laws.{DerivationsAreIsomorphisms, IsomorphismsAreDerivations, GraphsOfTermsAreValid};
+
+use chyp_term::Term;
+
+/// Terms with a derivation by the monoidal laws have isomorphic graphs.
+pub fn derivation_gives_same(s: &Term, t: &Term)
+    requires { Derives [] (morphism_of s.now) (morphism_of t.now) }
+    ensures { Isomorphic (graph_of (morphism_of s.now)) (graph_of (morphism_of t.now)) }
+{}
+
+/// Typed terms with isomorphic graphs have a derivation by the monoidal laws.
+pub fn same_gives_derivation(s: &Term, t: &Term)
+    requires left { IsTyped (morphism_of s.now) }
+    requires right { IsTyped (morphism_of t.now) }
+    requires same { Isomorphic (graph_of (morphism_of s.now)) (graph_of (morphism_of t.now)) }
+    ensures { Derives [] (morphism_of s.now) (morphism_of t.now) }
+{}
+
+/// Over all terms: typed terms have a derivation by the monoidal laws exactly where their graphs are
+/// isomorphic, and these graphs are valid. It is the theorem on symmetric monoidal categories of
+/// Bonchi, Gadducci, Kissinger, Sobociński and Zanasi, String Diagram Rewrite Theory II, for graphs
+/// with numbered wires.
+pub fn graphs_decide_the_laws()
+    ensures sound { DerivationsAreIsomorphisms }
+    ensures complete { IsomorphismsAreDerivations }
+    ensures valid { GraphsOfTermsAreValid }
+{}
+
+#[cfg(test)]
+mod tests;
