@@ -1,16 +1,16 @@
 -- Parts joined by halves.
-use Rattle.std.proofs.Common.{◌≡◌, ℕ, zero, suc, ◌/◌, ◌≤◌, List, [], ◌∷◌, length, take, drop, refl, sym, ◌∙◌, ap, ap₂, arith, length-take, length-drop, map, Result, Ok, Err, IfOk}
+use Rattle.std.proofs.Common.{◌≡◌, ℕ, zero, suc, ◌+◌, ◌/◌, ◌<◌, ◌≤◌, slice_index_or, List, [], ◌∷◌, length, take, drop, refl, sym, ◌∙◌, ap, ap₂, subst, arith, length-take, length-drop, map, Result, Ok, Err, IfOk}
 use Rattle.std.proofs.lemmas.List.{length-map, take-map, drop-map}
 use Rattle.chyp_term.specs.declared.term.Term.{Term}
 use Rattle.chyp_term.specs.Term.{morphism_of}
 use Rattle.chyp_term.specs.Morphism.{Morphism, then, beside}
 use Rattle.chyp_syntax.specs.declared.term.TermAst.{TermAst}
 use Rattle.chyp_syntax.specs.declared.term.TermAst.TheVariants.{Chain, Beside}
-use Rattle.chyp_syntax.specs.Term.{TermTree, terms_of, tree_of}
+use Rattle.chyp_syntax.specs.Term.{TermTree, TermTrees, named, wire, empty, swap, chain, beside as beside_tree, no_terms, term as a_term, terms_of, tree_of}
 use Rattle.chyp_syntax.proofs.Trees.{tree_of-Chain, tree_of-Beside}
 use Rattle.chyp_app.specs.declared.expand.Join.{Join}
 use Rattle.chyp_app.specs.declared.expand.Join.TheVariants.{Then}
-use Rattle.chyp_app.specs.Expansion.{join_of, halved_by, halved, expansion_of, expansions_of}
+use Rattle.chyp_app.specs.Expansion.{IsBare, AreBare, join_of, halved_by, halved, expansion_of, expansions_of}
 
 -- more than enough is as good as enough
 halved-enough : (m n : ℕ) (join : Morphism → Morphism → Morphism) (parts : List Morphism) → length parts ≤ m → length parts ≤ n
@@ -87,3 +87,55 @@ tensor_expanded join parts items terms tree term e f j i s =
 pub if_ok : {T E : Type 0} (P Q : T → Type 0) → ((x : T) → P x → Q x) → (result : Result T E) → IfOk result P → IfOk result Q
 if_ok P Q f (Ok x) h = f x h
 if_ok P Q f (Err e) h = tt
+
+-- the parts of a bare row are bare
+pub bare_part : (parts : List TermAst) (k : ℕ) (part : TermAst) → AreBare (terms_of (map tree_of parts)) → k < length parts
+    → part ≡ slice_index_or parts k part → IsBare (tree_of part)
+bare_part parts k part h k-in e = subst (λ (x : TermAst). IsBare (tree_of x)) (sym e) (at parts k part h k-in)
+  where
+    at : (parts : List TermAst) (k : ℕ) (part : TermAst) → AreBare (terms_of (map tree_of parts)) → k < length parts → IsBare (tree_of (slice_index_or parts k part))
+    at [] k part h k-in = absurd (omega arith)
+    at (p ∷ parts) zero part h k-in = h.0
+    at (p ∷ parts) (suc k) part h k-in = at parts k part h.1 (omega arith)
+
+pub bare_chain : (tree : TermAst) (parts items : List TermAst) (semis : List ℕ) → tree ≡ Chain parts semis → items ≡ parts → IsBare (tree_of tree) → AreBare (terms_of (map tree_of items))
+bare_chain tree parts items semis e i h =
+    let P : List TermAst → Type 0 = λ xs. AreBare (terms_of (map tree_of xs)) in
+    subst P (sym i) (subst IsBare (ap tree_of e ∙ tree_of-Chain parts semis) h)
+
+pub bare_tensor : (tree : TermAst) (parts items : List TermAst) → tree ≡ Beside parts → items ≡ parts → IsBare (tree_of tree) → AreBare (terms_of (map tree_of items))
+bare_tensor tree parts items e i h =
+    let P : List TermAst → Type 0 = λ xs. AreBare (terms_of (map tree_of xs)) in
+    subst P (sym i) (subst IsBare (ap tree_of e ∙ tree_of-Beside parts) h)
+
+abbrev mutual
+  -- the nodes of a tree, each `id`, `sw` and name among them
+  pub nodes : TermTree → ℕ
+  nodes (named token) = 1
+  nodes wire = 1
+  nodes empty = 1
+  nodes (swap token places) = 1
+  nodes (chain parts semis) = suc (all_nodes parts)
+  nodes (beside_tree parts) = suc (all_nodes parts)
+
+  pub all_nodes : TermTrees → ℕ
+  all_nodes no_terms = 0
+  all_nodes (a_term first rest) = nodes first + all_nodes rest
+
+-- a part of a row has no more nodes than the row
+pub part_nodes : (parts : List TermAst) (k : ℕ) (part : TermAst) → k < length parts → part ≡ slice_index_or parts k part
+    → nodes (tree_of part) ≤ all_nodes (terms_of (map tree_of parts))
+part_nodes parts k part k-in e = subst (λ (x : TermAst). nodes (tree_of x) ≤ all_nodes (terms_of (map tree_of parts))) (sym e) (at parts k part k-in)
+  where
+    at : (parts : List TermAst) (k : ℕ) (part : TermAst) → k < length parts → nodes (tree_of (slice_index_or parts k part)) ≤ all_nodes (terms_of (map tree_of parts))
+    at [] k part k-in = absurd (omega arith)
+    at (p ∷ parts) zero part k-in = omega arith
+    at (p ∷ parts) (suc k) part k-in = let h = at parts k part (omega arith) in omega arith
+
+pub chain_nodes : (tree : TermAst) (parts items : List TermAst) (semis : List ℕ) → tree ≡ Chain parts semis → items ≡ parts
+    → nodes (tree_of tree) ≡ suc (all_nodes (terms_of (map tree_of items)))
+chain_nodes tree parts items semis e i = ap nodes (ap tree_of e ∙ tree_of-Chain parts semis) ∙ ap (λ (xs : List TermAst). suc (all_nodes (terms_of (map tree_of xs)))) (sym i)
+
+pub tensor_nodes : (tree : TermAst) (parts items : List TermAst) → tree ≡ Beside parts → items ≡ parts
+    → nodes (tree_of tree) ≡ suc (all_nodes (terms_of (map tree_of items)))
+tensor_nodes tree parts items e i = ap nodes (ap tree_of e ∙ tree_of-Beside parts) ∙ ap (λ (xs : List TermAst). suc (all_nodes (terms_of (map tree_of xs)))) (sym i)

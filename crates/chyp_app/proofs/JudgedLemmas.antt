@@ -16,7 +16,7 @@ pub judged_alike : (text : List ℕ) (a b : List (List ℕ)) (statement : List T
     → ((name : List ℕ) → is_bound a name ≡ is_bound b name) → IsJudged text a statement verdict → IsJudged text b statement verdict
 judged_alike text a b statement verdict same (not_small h) = not_small h
 judged_alike text a b statement verdict same (declared {name} is bound) = declared is (subst IsTrue (same name) bound)
-judged_alike text a b statement verdict same (rewrite fresh small last v) = rewrite (λ name is. sym (same name) ∙ fresh name is) small last v
+judged_alike text a b statement verdict same (rewrite fresh small first last v) = rewrite (λ name is. sym (same name) ∙ fresh name is) small first last v
 
 is_bound-append : (xs ys : List (List ℕ)) (name : List ℕ) → is_bound (xs ++ ys) name ≡ (is_bound xs name || is_bound ys name)
 is_bound-append [] ys name = refl

@@ -10,7 +10,7 @@ use Rattle.chyp_lex.specs.declared.token.Token.{Token}
 use Rattle.chyp_lex.specs.Tokens.{HasOneTokenList}
 use Rattle.chyp_syntax.specs.declared.chunk.Chunk.{Chunk}
 use Rattle.chyp_syntax.specs.Chunk.{AreChunks, HasOneListOfChunks}
-use Rattle.chyp_syntax.specs.Sentence.{HasOneTreeOrNone}
+use Rattle.chyp_syntax.specs.SmallSentence.{HasOneSmallTreeOrNone}
 use Rattle.chyp_syntax.specs.Statement.{StatementTree}
 use Rattle.chyp_syntax.specs.Term.{TermTree}
 use Rattle.chyp_term.specs.Morphism.{Morphism, IsTyped}
@@ -68,17 +68,17 @@ declared_or_fresh text names statement = go (declared_name text statement) refl
         bound false h = inr (λ name is. let same : name ≡ found = cc in ap (is_bound names) same ∙ h)
 
 -- each statement has a verdict
-some_verdict : WiringDecidesWires → ((tokens : List Token) → HasOneTreeOrNone tokens) → (text : List ℕ) (names : List (List ℕ)) (statement : List Token)
+some_verdict : WiringDecidesWires → ((tokens : List Token) → HasOneSmallTreeOrNone tokens) → (text : List ℕ) (names : List (List ℕ)) (statement : List Token)
     → SomeVerdict (IsJudged text names statement)
 some_verdict law trees text names statement = go (declared_or_fresh text names statement) (trees statement)
   where
-    go : IsJudged text names statement NotBuilt ⊎ IsFresh text names statement → HasOneTreeOrNone statement → SomeVerdict (IsJudged text names statement)
+    go : IsJudged text names statement NotBuilt ⊎ IsFresh text names statement → HasOneSmallTreeOrNone statement → SomeVerdict (IsJudged text names statement)
     go (inl h) t = record { verdict = NotBuilt; gets = h }
     go (inr fresh) (inr none) = record { verdict = NotBuilt; gets = not_small none }
     go (inr fresh) (inl tree) =
         let ends = small_ends statement tree.0 tree.1 in
-        let v = verdict_on law (expansion_of (first_term tree.0)) (expansion_of ends.last) (plain_expansion (first_term tree.0)) (plain_expansion ends.last) in
-        record { verdict = v.verdict; gets = rewrite fresh tree.1 ends.is_last v.gets }
+        let v = verdict_on law (expansion_of ends.first) (expansion_of ends.last) (plain_expansion ends.first ends.first_small.bare) (plain_expansion ends.last ends.last_small.bare) in
+        record { verdict = v.verdict; gets = rewrite fresh tree.1 ends.is_first ends.is_last v.gets }
 
 -- verdicts for the first statements of a text
 record SomeVerdicts (text : List ℕ) (tokens : List Token) (chunks : List Chunk) (n : ℕ) : Type 0 where
@@ -86,7 +86,7 @@ record SomeVerdicts (text : List ℕ) (tokens : List Token) (chunks : List Chunk
   count : length verdicts ≡ n
   judged : EachJudged text tokens chunks verdicts
 
-some_verdicts : WiringDecidesWires → ((tokens : List Token) → HasOneTreeOrNone tokens) → (text : List ℕ) (tokens : List Token) (chunks : List Chunk) (n : ℕ) → n ≤ length chunks
+some_verdicts : WiringDecidesWires → ((tokens : List Token) → HasOneSmallTreeOrNone tokens) → (text : List ℕ) (tokens : List Token) (chunks : List Chunk) (n : ℕ) → n ≤ length chunks
     → SomeVerdicts text tokens chunks n
 some_verdicts law trees text tokens chunks zero h = record { verdicts = []; count = refl; judged = λ k chunk verdict e f. absurd cc }
 some_verdicts law trees text tokens chunks (suc n) h =
@@ -113,24 +113,26 @@ verdict_on-one law (differs e n) (proved d) = absurd (n d)
 verdict_on-one law (differs e n) (differs f m) = refl
 
 -- a statement has one verdict
-judged_one : DerivationsAreEquations → {text : List ℕ} {names : List (List ℕ)} {statement : List Token} {v w : Verdict} → HasOneTreeOrNone statement
+judged_one : DerivationsAreEquations → {text : List ℕ} {names : List (List ℕ)} {statement : List Token} {v w : Verdict} → HasOneSmallTreeOrNone statement
     → IsJudged text names statement v → IsJudged text names statement w → v ≡ w
 judged_one law t (not_small a) (not_small b) = refl
 judged_one law t (not_small a) (declared is bound) = refl
-judged_one law t (not_small a) (rewrite fresh small last v) = absurd (a _ small)
+judged_one law t (not_small a) (rewrite fresh small first last v) = absurd (a _ small)
 judged_one law t (declared is bound) (not_small b) = refl
 judged_one law t (declared is bound) (declared is' bound') = refl
-judged_one law t (declared {name} is bound) (rewrite fresh small last v) = absurd (false≢true (sym (fresh name is) ∙ bound))
-judged_one law t (rewrite fresh small last v) (not_small b) = absurd (b _ small)
-judged_one law t (rewrite fresh small last v) (declared {name} is bound) = absurd (false≢true (sym (fresh name is) ∙ bound))
-judged_one law (inr none) (rewrite fresh small last v) (rewrite fresh' small' last' w) = absurd (none _ small)
-judged_one law {w = verdict} (inl one) (rewrite {tree} {last} fresh small is_last v) (rewrite {tree = tree'} {last = last'} fresh' small' is_last' w) =
+judged_one law t (declared {name} is bound) (rewrite fresh small first last v) = absurd (false≢true (sym (fresh name is) ∙ bound))
+judged_one law t (rewrite fresh small first last v) (not_small b) = absurd (b _ small)
+judged_one law t (rewrite fresh small first last v) (declared {name} is bound) = absurd (false≢true (sym (fresh name is) ∙ bound))
+judged_one law (inr none) (rewrite fresh small first last v) (rewrite fresh' small' first' last' w) = absurd (none _ small)
+judged_one law {w = verdict} (inl one) (rewrite {tree} {first} {last} fresh small is_first is_last v) (rewrite {tree = tree'} {first = first'} {last = last'} fresh' small' is_first' is_last' w) =
     let same : tree' ≡ tree = one.2 tree' small' ∙ sym (one.2 tree small) in
-    let options : Some last' ≡ Some last = sym is_last' ∙ ap last_term same ∙ is_last in
+    let first_options : Some first' ≡ Some first = sym is_first' ∙ ap first_term same ∙ is_first in
+    let last_options : Some last' ≡ Some last = sym is_last' ∙ ap last_term same ∙ is_last in
+    let firsts : first' ≡ first = cc in
     let lasts : last' ≡ last = cc in
-    let P : StatementTree → Type 0 = λ t. IsVerdictOn (expansion_of (first_term t)) (expansion_of last) verdict in
-    let Q : TermTree → Type 0 = λ t. IsVerdictOn (expansion_of (first_term tree')) (expansion_of t) verdict in
-    verdict_on-one law v (subst P same (subst Q lasts w))
+    let P : TermTree → Type 0 = λ t. IsVerdictOn (expansion_of t) (expansion_of last) verdict in
+    let Q : TermTree → Type 0 = λ t. IsVerdictOn (expansion_of first') (expansion_of t) verdict in
+    verdict_on-one law v (subst P firsts (subst Q lasts w))
 
 -- lists with the same items are the same
 same_items : {A : Type 0} (xs ys : List A) → length xs ≡ length ys → ((k : ℕ) (x y : A) → slice_get xs k ≡ Some x → slice_get ys k ≡ Some y → x ≡ y) → xs ≡ ys
@@ -140,7 +142,7 @@ same_items (x ∷ xs) [] l h = absurd (omega arith)
 same_items (x ∷ xs) (y ∷ ys) l h = ap₂ (λ z zs. z ∷ zs) (h 0 x y refl refl) (same_items xs ys (omega arith) (λ k. h (suc k)))
 
 -- a text has one list of verdicts
-verdicts_one : DerivationsAreEquations → ((tokens : List Token) → HasOneTreeOrNone tokens) → (text : List ℕ) (tokens : List Token) (chunks : List Chunk) (vs ws : List Verdict)
+verdicts_one : DerivationsAreEquations → ((tokens : List Token) → HasOneSmallTreeOrNone tokens) → (text : List ℕ) (tokens : List Token) (chunks : List Chunk) (vs ws : List Verdict)
     → AreVerdicts text tokens chunks vs → AreVerdicts text tokens chunks ws → vs ≡ ws
 verdicts_one law trees text tokens chunks vs ws a b = same_items vs ws (a.count ∙ sym b.count) (λ k v w e f.
     let within = slice_get_within vs k v e in
@@ -148,7 +150,7 @@ verdicts_one law trees text tokens chunks vs ws a b = same_items vs ws (a.count 
     let chunk = there k chunks (omega arith) in
     judged_one law (trees (chunk_tokens tokens chunk.0)) (a.judged k chunk.0 v chunk.1 e) (b.judged k chunk.0 w chunk.1 f))
 
-module _ (token_lists : (text : List ℕ) → HasOneTokenList text) (chunk_lists : (tokens : List Token) → HasOneListOfChunks tokens) (trees : (tokens : List Token) → HasOneTreeOrNone tokens) (equations : DerivationsAreEquations) (wires : WiringDecidesWires) where
+module _ (token_lists : (text : List ℕ) → HasOneTokenList text) (chunk_lists : (tokens : List Token) → HasOneListOfChunks tokens) (trees : (tokens : List Token) → HasOneSmallTreeOrNone tokens) (equations : DerivationsAreEquations) (wires : WiringDecidesWires) where
   output_one : (text : List ℕ) (a b : Output) → IsOutput text a → IsOutput text b → a ≡ b
   output_one text a b (too_long h) (too_long k) = refl
   output_one text a b (too_long h) (checked within ts cs vs) = absurd (omega arith)

@@ -2,7 +2,7 @@
 use Rattle.std.proofs.Common.{◌≡◌, ℕ, List, length, Some, sym, ◌∙◌, ap, subst}
 use Rattle.chyp_base.specs.declared.verdict.Verdict.{Verdict}
 use Rattle.chyp_lex.specs.declared.token.Token.{Token}
-use Rattle.chyp_syntax.specs.Sentence.{IsSmallSentence}
+use Rattle.chyp_syntax.specs.SmallSentence.{IsSmallSentence}
 use Rattle.chyp_syntax.specs.Statement.{StatementTree}
 use Rattle.chyp_syntax.specs.Term.{TermTree}
 use Rattle.chyp_base.specs.declared.verdict.Verdict.TheVariants.{NotBuilt, Proved, Differs}
@@ -51,9 +51,9 @@ module _ (l r : Morphism) (p q : List ℕ) (lp : IsPlain l) (rp : IsPlain r) (x 
 
 -- the verdict on the two expanded ends of a rewrite is the verdict of its statement
 pub judged_rewrite : (text : List ℕ) (names : List (List ℕ)) (statement : List Token) (tree : StatementTree) (first last : TermTree) (l r : Morphism) (verdict : Verdict)
-    → IsFresh text names statement → IsSmallSentence statement tree → first_term tree ≡ first → last_term tree ≡ Some last
+    → IsFresh text names statement → IsSmallSentence statement tree → first_term tree ≡ Some first → last_term tree ≡ Some last
     → l ≡ expansion_of first → r ≡ expansion_of last → IsVerdictOn l r verdict → IsJudged text names statement verdict
 judged_rewrite text names statement tree first last l r verdict fresh small is_first is_last el er v =
     let P : Morphism → Type 0 = λ m. IsVerdictOn m r verdict in
-    let Q : Morphism → Type 0 = λ m. IsVerdictOn (expansion_of (first_term tree)) m verdict in
-    rewrite fresh small is_last (subst Q er (subst P (el ∙ ap expansion_of (sym is_first)) v))
+    let Q : Morphism → Type 0 = λ m. IsVerdictOn (expansion_of first) m verdict in
+    rewrite fresh small is_first is_last (subst Q er (subst P el v))

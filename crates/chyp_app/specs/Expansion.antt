@@ -1,8 +1,8 @@
 -- The term that a tree stands for, which has no limits.
-use Rattle.std.specs.Prelude.{ℕ, zero, suc, ◌/◌, List, [], ◌∷◌, length, take, drop, replicate}
+use Rattle.std.specs.Prelude.{ℕ, zero, suc, ◌/◌, List, [], ◌∷◌, length, take, drop, replicate, None, Some}
 use Rattle.chyp_base.specs.declared.sort.Sort.{Sort}
 use Rattle.chyp_base.specs.Sort.{plain}
-use Rattle.chyp_syntax.specs.Term.{TermTree, TermTrees, wire, swap, chain, beside as tensor, no_terms, term}
+use Rattle.chyp_syntax.specs.Term.{TermTree, TermTrees, named, wire, empty as no_wire, swap, chain, beside as tensor, no_terms, term}
 use Rattle.chyp_app.specs.declared.expand.Join.{Join}
 use Rattle.chyp_app.specs.declared.expand.Join.TheVariants.{Then, Beside}
 use Rattle.chyp_term.specs.Morphism.{Morphism, permutation, then, beside}
@@ -35,14 +35,45 @@ join_of Then = then
 join_of Beside = beside
 
 abbrev mutual
-  -- `id` is one wire, `sw` crosses two, a chain composes its parts, and a tensor puts them side by side
-  pub expansion_of : TermTree → Morphism
-  expansion_of wire = plain_permutation (0 ∷ [])
-  expansion_of (swap token) = plain_permutation (1 ∷ 0 ∷ [])
-  expansion_of (chain parts semis) = halved then (expansions_of parts)
-  expansion_of (tensor parts) = halved beside (expansions_of parts)
+  -- The term of a tree, where `meaning` is the term that a name stands for, by the number of its token: `id` is one wire,
+  -- `id0` none, `sw` crosses two or permutes as its places say, a chain composes its parts, and a tensor puts them side by side.
+  pub expansion_in : (ℕ → Morphism) → TermTree → Morphism
+  expansion_in meaning (named token) = meaning token
+  expansion_in meaning wire = plain_permutation (0 ∷ [])
+  expansion_in meaning no_wire = plain_permutation []
+  expansion_in meaning (swap token None) = plain_permutation (1 ∷ 0 ∷ [])
+  expansion_in meaning (swap token (Some places)) = plain_permutation places
+  expansion_in meaning (chain parts semis) = halved then (expansions_in meaning parts)
+  expansion_in meaning (tensor parts) = halved beside (expansions_in meaning parts)
 
-  -- the terms that some trees stand for
-  pub expansions_of : TermTrees → List Morphism
-  expansions_of no_terms = []
-  expansions_of (term first rest) = expansion_of first ∷ expansions_of rest
+  -- the terms of some trees
+  pub expansions_in : (ℕ → Morphism) → TermTrees → List Morphism
+  expansions_in meaning no_terms = []
+  expansions_in meaning (term first rest) = expansion_in meaning first ∷ expansions_in meaning rest
+
+-- no name stands for a term yet
+abbrev pub no_meaning : ℕ → Morphism
+no_meaning token = empty
+
+-- the term of a tree without names
+abbrev pub expansion_of : TermTree → Morphism
+expansion_of = expansion_in no_meaning
+
+abbrev pub expansions_of : TermTrees → List Morphism
+expansions_of = expansions_in no_meaning
+
+abbrev mutual
+  -- no name stands in the tree, and no `sw` has places
+  pub IsBare : TermTree → Type 0
+  IsBare (named token) = ⊥
+  IsBare wire = Unit {0}
+  IsBare no_wire = Unit {0}
+  IsBare (swap token None) = Unit {0}
+  IsBare (swap token (Some places)) = ⊥
+  IsBare (chain parts semis) = AreBare parts
+  IsBare (tensor parts) = AreBare parts
+
+  -- so it is in each of the trees
+  pub AreBare : TermTrees → Type 0
+  AreBare no_terms = Unit {0}
+  AreBare (term first rest) = IsBare first × AreBare rest

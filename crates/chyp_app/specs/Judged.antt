@@ -1,10 +1,10 @@
 -- Which verdict a statement gets.
-use Rattle.std.specs.Prelude.{◌≡◌, ℕ, ◌-◌, List, [], length, take, map, slice_get, Option, Some, false, IsTrue, option_and_then}
+use Rattle.std.specs.Prelude.{◌≡◌, ℕ, ◌-◌, List, [], length, take, map, slice_get, Option, None, Some, false, IsTrue, option_and_then}
 use Rattle.chyp_base.specs.declared.verdict.Verdict.{Verdict}
 use Rattle.chyp_base.specs.declared.verdict.Verdict.TheVariants.{NotBuilt, Proved, Differs}
 use Rattle.chyp_lex.specs.declared.token.Token.{Token}
 use Rattle.chyp_syntax.specs.declared.chunk.Chunk.{Chunk}
-use Rattle.chyp_syntax.specs.Sentence.{IsSmallSentence, IsNoSmallSentence}
+use Rattle.chyp_syntax.specs.SmallSentence.{IsSmallSentence, IsNoSmallSentence}
 use Rattle.chyp_syntax.specs.Statement.{StatementTree, rewrite as a_rewrite}
 use Rattle.chyp_syntax.specs.Term.{TermTree}
 use Rattle.chyp_term.specs.Morphism.{Morphism}
@@ -14,12 +14,14 @@ use Rattle.chyp_app.specs.Environment.{bound_names, is_bound}
 use Rattle.chyp_app.specs.Expansion.{expansion_of}
 
 -- the term that a rewrite begins with
-abbrev pub first_term : StatementTree → TermTree
-first_term (a_rewrite name first steps) = first
+abbrev pub first_term : StatementTree → Option TermTree
+first_term (a_rewrite name first steps) = Some first
+first_term _ = None
 
 -- the term that a rewrite ends with, where its last step has a goal
 abbrev pub last_term : StatementTree → Option TermTree
 last_term (a_rewrite name first steps) = option_and_then (λ step. step.goal) (slice_get steps (length steps - 1))
+last_term _ = None
 
 -- none of these names is the one that the statement declares
 abbrev pub IsFresh : List ℕ → List (List ℕ) → List Token → Type 0
@@ -37,9 +39,9 @@ pub data IsVerdictOn (left right : Morphism) : Verdict → Type 0 where
 pub data IsJudged (text : List ℕ) (names : List (List ℕ)) (statement : List Token) : Verdict → Type 0 where
   not_small : IsNoSmallSentence statement → IsJudged text names statement NotBuilt
   declared : {name : List ℕ} → declared_name text statement ≡ Some name → IsTrue (is_bound names name) → IsJudged text names statement NotBuilt
-  rewrite : {tree : StatementTree} {last : TermTree} {verdict : Verdict} → IsFresh text names statement
-      → IsSmallSentence statement tree → last_term tree ≡ Some last
-      → IsVerdictOn (expansion_of (first_term tree)) (expansion_of last) verdict → IsJudged text names statement verdict
+  rewrite : {tree : StatementTree} {first last : TermTree} {verdict : Verdict} → IsFresh text names statement
+      → IsSmallSentence statement tree → first_term tree ≡ Some first → last_term tree ≡ Some last
+      → IsVerdictOn (expansion_of first) (expansion_of last) verdict → IsJudged text names statement verdict
 
 -- the tokens of each chunk
 abbrev pub statements_of : List Token → List Chunk → List (List Token)

@@ -7,7 +7,9 @@ use crate::judge::judge_all;
 use crate::report::{good_count, report};
 use chyp_base::{NoMemory, Status, Steps, Verdict};
 use chyp_lex::{every_text_has_one_token_list, lex};
-use chyp_syntax::{chunks, each_chunk_has_one_tree_or_none, each_text_has_one_list_of_chunks};
+use chyp_syntax::{
+    chunks, each_chunk_has_one_small_tree_or_none, each_text_has_one_list_of_chunks,
+};
 use chyp_theory::{derivations_are_equations, wires_are_permutations};
 use std::alloc::Global;
 use std::sync::ledger::Ledger;
@@ -37,7 +39,7 @@ pub fn each_text_has_one_output()
 {
     every_text_has_one_token_list();
     each_text_has_one_list_of_chunks();
-    each_chunk_has_one_tree_or_none();
+    each_chunk_has_one_small_tree_or_none();
     derivations_are_equations();
     wires_are_permutations();
 }

@@ -4,7 +4,7 @@ ghost use Rattle.chyp_term.specs.Term.{morphism_of};
 ghost use Rattle.chyp_term.specs.Morphism.{then, beside};
 ghost use Rattle.chyp_term.specs.Perm.{IsPermutation};
 ghost use Rattle.chyp_syntax.specs.Term.{tree_of};
-ghost use Rattle.chyp_app.specs.Expansion.{expansion_of, halved, join_of, plain_permutation, plain_wires};
+ghost use Rattle.chyp_app.specs.Expansion.{IsBare, expansion_of, halved, join_of, plain_permutation, plain_wires};
 
 use chyp_base::{NoMemory, Sort, Sorts};
 use chyp_syntax::TermAst;
@@ -61,13 +61,20 @@ fn joined(alloc: Global, join: Join, mut parts: Vec<Term>) -> Result<Term, NoMem
     }
 }
 
-/// The term that a tree stands for.
+/// The term that a tree without names and places stands for.
 pub fn expand(alloc: Global, tree: &TermAst) -> Result<Term, NoMemory>
+    requires { IsBare (tree_of tree.now) }
     ensures { IfOk result (λ term. morphism_of term ≡ expansion_of (tree_of tree.now)) }
 {
     let (join, parts) = match tree {
+        TermAst::Named(_)
+        | TermAst::Swap {
+            places: Some(_),
+            ..
+        } => unreachable!(),
         TermAst::Wire => return plain_permutation(alloc, &[0]),
-        TermAst::Swap { .. } => return plain_permutation(alloc, &[1, 0]),
+        TermAst::Empty => return plain_permutation(alloc, &[]),
+        TermAst::Swap { places: None, .. } => return plain_permutation(alloc, &[1, 0]),
         TermAst::Chain { parts, .. } => (Join::Then, parts),
         TermAst::Beside(parts) => (Join::Beside, parts),
     };

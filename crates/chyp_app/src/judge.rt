@@ -16,7 +16,7 @@ use crate::statement::{chunk_tokens, declared_name};
 use crate::wiring::wiring;
 use chyp_base::{NoMemory, Steps, Verdict};
 use chyp_lex::Token;
-use chyp_syntax::{Ast, Chunk, ParseError, TermAst, parse};
+use chyp_syntax::{Ast, Chunk, SmallParseError, TermAst, parse_small};
 use chyp_term::Term;
 use chyp_theory::wires_are_permutations;
 use std::alloc::Global;
@@ -49,10 +49,12 @@ fn judge_equation(left: Term, right: Term) -> Result<Verdict, NoMemory>
 
 // The first term of a rewrite, and the goal of its last step.
 fn ends(ast: &Ast) -> Option<(&TermAst, &TermAst)>
-    ensures some { IfSome result (λ ends. (first_term (statement_of ast.now) ≡ tree_of ends.0.now) × (last_term (statement_of ast.now) ≡ Some (tree_of ends.1.now))) }
+    ensures some { IfSome result (λ ends. (first_term (statement_of ast.now) ≡ Some (tree_of ends.0.now)) × (last_term (statement_of ast.now) ≡ Some (tree_of ends.1.now))) }
     ensures none { IfNone result (last_term (statement_of ast.now) ≡ None) }
 {
-    let Ast::RewriteDecl { first, steps, .. } = ast;
+    let Ast::RewriteDecl { first, steps, .. } = ast else {
+        return None;
+    };
     let last = steps.as_slice().last()?.goal.as_ref()?;
     Some((first, last))
 }
@@ -83,10 +85,10 @@ fn judge(
     if is_declared(text, statement, names) {
         return Ok(Verdict::NotBuilt);
     }
-    let ast = match parse(alloc, statement) {
+    let ast = match parse_small(alloc, statement) {
         Ok(ast) => ast,
-        Err(ParseError::NotBuilt) => return Ok(Verdict::NotBuilt),
-        Err(ParseError::NoMemory) => return Err(NoMemory),
+        Err(SmallParseError::NotBuilt) => return Ok(Verdict::NotBuilt),
+        Err(SmallParseError::NoMemory) => return Err(NoMemory),
     };
     let Some((first, last)) = ends(&ast) else {
         unreachable!()

@@ -12,6 +12,7 @@ inner ks n = filter (is_apart ks) (count_from 0 n)
 abbrev pub inner_wires : PlainGraph → List ℕ
 inner_wires h = inner h.inputs (length h.wires)
 
+-- the output at a place, or else the number given
 abbrev pub joined_at : List ℕ → ℕ → Option ℕ → ℕ
 joined_at outs inside None = inside
 joined_at outs inside (Some j) = slice_index outs j

@@ -1,5 +1,5 @@
 -- Plain graphs: finite hypergraphs with sorts on their wires and with two interfaces, which are cospans of hypergraphs
--- over numbers (Bonchi, Gadducci, Kissinger, Sobociński and Zanasi, String Diagram Rewrite Theory II, section 2).
+-- over numbers (Bonchi, Gadducci, Kissinger, Sobociński and Zanasi, String Diagram Rewrite Theory II).
 use Rattle.std.specs.Prelude.{ℕ, List, map, flat_map}
 use Rattle.chyp_base.specs.declared.sort.Sort.{Sort}
 use Rattle.chyp_term.specs.Perm.{permuted}

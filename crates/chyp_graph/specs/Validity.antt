@@ -1,5 +1,5 @@
 -- Valid plain graphs: monogamous and acyclic (Bonchi, Gadducci, Kissinger, Sobociński and Zanasi, String Diagram
--- Rewrite Theory II, section 3).
+-- Rewrite Theory II).
 use Rattle.std.specs.Prelude.{ℕ, zero, suc, ◌≡◌, Bool, List, [], ◌++◌, length, filter}
 use Rattle.std.specs.List.{list_all}
 use Rattle.chyp_term.specs.Perm.{IsPermutation}
@@ -16,6 +16,7 @@ abbrev pub taken_within : PlainGraph → ℕ → List Edge
 taken_within g zero = []
 taken_within g (suc n) = filter (is_ready (g.inputs ++ targets_of (taken_within g n))) g.edges
 
+-- valid: monogamous and acyclic
 pub record IsValid (g : PlainGraph) : Type 0 where
   -- each wire is once an input or a target
   pub producers : IsPermutation (length g.wires) (g.inputs ++ targets_of g.edges)

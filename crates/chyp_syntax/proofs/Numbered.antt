@@ -1,13 +1,12 @@
 -- The numbered tokens from a place on, and what stands at their front.
-use Rattle.std.proofs.Common.{◌≡◌, ℕ, ◌+◌, ◌<◌, ◌≤◌, ◌⊎◌, inl, inr, List, [], ◌∷◌, ◌++◌, length, drop, get_or, sym, ◌∙◌, ap, ap₂, subst, zero-add, arith}
+use Rattle.std.proofs.Common.{◌≡◌, ℕ, ◌+◌, ◌<◌, ◌≤◌, inl, inr, List, [], ◌∷◌, length, drop, get_or, refl, sym, ◌∙◌, ap, ap₂, subst, zero-add, arith}
 use Rattle.std.proofs.lemmas.List.{drop_more, drop_all, drop-drop, length-drop}
 use Rattle.std.proofs.lemmas.List.FromFn.{length-enumerate_from, get_or-enumerate_from}
+use Rattle.std.proofs.lemmas.Option.{slice_get_cases}
 use Rattle.chyp_lex.specs.declared.token.Token.{Token}
 use Rattle.chyp_lex.specs.declared.token.TokenKind.{TokenKind}
-use Rattle.chyp_lex.specs.declared.token.TokenKind.TheVariants.{WordId, WordSw}
-use Rattle.chyp_syntax.specs.Front.{BeginsWithKind, BeginsWithAtom}
-use Rattle.chyp_syntax.specs.Sentence.{NumberedToken, numbered, tokens_from, kind_of, IsAtom, an_id, a_swap}
-use Rattle.chyp_syntax.specs.Term.{TermTree}
+use Rattle.chyp_lex.specs.declared.token.TokenKind.TheVariants.{Number}
+use Rattle.chyp_syntax.specs.Numbered.{NumberedToken, numbered, tokens_from, kind_of, value_of, BeginsWithKind, BeginsWithNumber}
 
 pub length-numbered : (tokens : List Token) → length (numbered tokens) ≡ length tokens
 length-numbered tokens = length-enumerate_from 0 tokens
@@ -33,27 +32,45 @@ kind_there kind xs ys x e is = subst (BeginsWithKind kind) e is
 pub nothing_begins : (kind : TokenKind) (xs : List NumberedToken) → xs ≡ [] → BeginsWithKind kind xs → ⊥
 nothing_begins kind xs e is = subst (BeginsWithKind kind) e is
 
-atom_kind : {front : List NumberedToken} {t : TermTree} → IsAtom front t → (rest : List NumberedToken) (x : NumberedToken) (ys : List NumberedToken) →
-    front ++ rest ≡ x ∷ ys → (kind_of x ≡ WordId) ⊎ (kind_of x ≡ WordSw)
-atom_kind (an_id {word = word} is) rest x ys e = let same : word ≡ x = cc in inl (ap kind_of (sym same) ∙ is)
-atom_kind (a_swap {word = word} is) rest x ys e = let same : word ≡ x = cc in inr (ap kind_of (sym same) ∙ is)
-
-pub no_atom_of_kind : (xs ys : List NumberedToken) (x : NumberedToken) → xs ≡ x ∷ ys → (kind_of x ≡ WordId → ⊥) → (kind_of x ≡ WordSw → ⊥) →
-    (rest : List NumberedToken) (t : TermTree) → BeginsWithAtom xs rest t → ⊥
-no_atom_of_kind xs ys x e id sw rest t b = elim (atom_kind b.is_atom rest x ys (sym b.joined ∙ e)) [ inl is ↦ id is | inr is ↦ sw is ]
-
-no_atom_nowhere : {front : List NumberedToken} {t : TermTree} → IsAtom front t → (rest : List NumberedToken) → front ++ rest ≡ [] → ⊥
-no_atom_nowhere (an_id is) rest e = cc
-no_atom_nowhere (a_swap is) rest e = cc
-
-pub no_atom_at_end : (xs : List NumberedToken) → xs ≡ [] → (rest : List NumberedToken) (t : TermTree) → BeginsWithAtom xs rest t → ⊥
-no_atom_at_end xs e rest t b = no_atom_nowhere b.is_atom rest (sym b.joined ∙ e)
-
-pub id_begins : (xs ys : List NumberedToken) (x : NumberedToken) → xs ≡ x ∷ ys → {t : TermTree} → IsAtom (x ∷ []) t → BeginsWithAtom xs ys t
-id_begins xs ys x e is = record { front = x ∷ []; joined = e; is_atom = is }
-
 pub tokens_from-next : (tokens : List Token) (at : ℕ) → drop 1 (tokens_from tokens at) ≡ tokens_from tokens (at + 1)
 tokens_from-next tokens at = drop-drop 1 at (numbered tokens)
 
 pub more_there : (tokens : List Token) (at : ℕ) → at < length tokens → tokens_from tokens at ≡ [] → ⊥
 more_there tokens at lt e = omega (arith, ap length e, length-drop at (numbered tokens), length-numbered tokens)
+
+pub length-tokens_from : (tokens : List Token) (at : ℕ) → length (tokens_from tokens at) ≤ length tokens
+length-tokens_from tokens at = omega (arith, length-drop at (numbered tokens), length-numbered tokens)
+
+-- what stands at a place where a kind stands
+pub token_there : (tokens : List Token) (at : ℕ) (kind : TokenKind) → BeginsWithKind kind (tokens_from tokens at) →
+    (token : Token) × (at < length tokens) × (tokens_from tokens at ≡ (at, token) ∷ tokens_from tokens (at + 1)) × (token.kind ≡ kind)
+token_there tokens at kind begins =
+    elim ((slice_get_cases tokens at).1) [
+      | inl found ↦
+          let here = tokens_from-more tokens at found.0 found.1 (sym found.3) in
+          (found.0, found.1, here, kind_there kind (tokens_from tokens at) (tokens_from tokens (at + 1)) (at, found.0) here begins)
+      | inr past ↦ absurd (nothing_begins kind (tokens_from tokens at) (tokens_from-past tokens at past.0) begins)
+    ]
+
+pub tokens_from-at : (tokens : List Token) (at : ℕ) (default : Token) → at < length tokens → tokens_from tokens at ≡ (at, get_or tokens at default) ∷ tokens_from tokens (at + 1)
+tokens_from-at tokens at default lt =
+    let d : NumberedToken = (0, default) in
+    let made : ℕ → NumberedToken = λ n. (n, get_or tokens at default) in
+    drop_more (numbered tokens) at d (omega (arith, length-numbered tokens))
+    ∙ ap (λ (x : NumberedToken). x ∷ tokens_from tokens (at + 1)) (get_or-enumerate_from 0 tokens at d lt ∙ ap made (zero-add at))
+
+pub number_there : (xs ys : List NumberedToken) (x : NumberedToken) → xs ≡ x ∷ ys → BeginsWithKind Number xs → BeginsWithNumber (value_of x) xs
+number_there xs ys x e begins = subst (BeginsWithNumber (value_of x)) (sym e) (kind_there Number xs ys x e begins, refl)
+
+pub from-two : (tokens : List Token) (at : ℕ) → tokens_from tokens (at + 1 + 1) ≡ tokens_from tokens (at + 2)
+from-two tokens at = let e : at + 1 + 1 ≡ at + 2 = omega arith in ap (tokens_from tokens) e
+
+pub from-three : (tokens : List Token) (at : ℕ) → tokens_from tokens (at + 1 + 1 + 1) ≡ tokens_from tokens (at + 3)
+from-three tokens at = let e : at + 1 + 1 + 1 ≡ at + 3 = omega arith in ap (tokens_from tokens) e
+
+pub within_kind : (tokens : List Token) (at : ℕ) (kind : TokenKind) → BeginsWithKind kind (tokens_from tokens at) → at < length tokens
+within_kind tokens at kind begins = (token_there tokens at kind begins).1
+
+pub number_kind : (value : ℕ) (xs : List NumberedToken) → BeginsWithNumber value xs → BeginsWithKind Number xs
+number_kind value [] begins = elim begins [ ]
+number_kind value (x ∷ xs) begins = begins.0

@@ -1,6 +1,11 @@
 pub mod Chunk
-pub mod Front
+pub mod Expected
+pub mod Failing
+pub mod Numbered
+pub mod Reads
 pub mod Sentence
+pub mod SmallFront
+pub mod SmallSentence
 pub mod Statement
 pub mod Step
 pub mod Term

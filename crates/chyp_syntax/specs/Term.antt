@@ -1,5 +1,5 @@
 -- The trees of terms, as contracts see them: no pointer and no buffer in them.
-use Rattle.std.specs.Prelude.{ℕ, List, [], ◌∷◌}
+use Rattle.std.specs.Prelude.{ℕ, List, [], ◌∷◌, Option}
 use Rattle.chyp_syntax.specs.declared.term.TermAst.{TermAst}
 use Rattle.chyp_syntax.specs.declared.term.TermAst.TheFolds.{fold-TermAst}
 use Rattle.chyp_syntax.specs.declared.term.TermAst.TheOpen.{TermAst-F}
@@ -7,8 +7,10 @@ use Rattle.chyp_syntax.specs.declared.term.TermAst.TheOpen.{TermAst-F}
 mutual
   -- the tree of a term; a token stands for its number within the chunk
   pub data TermTree : Type 0 where
+    named : (token : ℕ) → TermTree
     wire : TermTree
-    swap : (token : ℕ) → TermTree
+    empty : TermTree
+    swap : (token : ℕ) (places : Option (List ℕ)) → TermTree
     chain : (parts : TermTrees) (semis : List ℕ) → TermTree
     beside : (parts : TermTrees) → TermTree
 
@@ -24,8 +26,10 @@ terms_of (tree ∷ trees) = term tree (terms_of trees)
 
 -- one node, where its parts are seen as trees already
 abbrev pub node_of : TermAst-F TermTree → TermTree
+node_of (TermAst-F.Named token) = named token
 node_of TermAst-F.Wire = wire
-node_of (TermAst-F.Swap token) = swap token
+node_of TermAst-F.Empty = empty
+node_of (TermAst-F.Swap token places) = swap token places
 node_of (TermAst-F.Chain parts semis) = chain (terms_of parts) semis
 node_of (TermAst-F.Beside parts) = beside (terms_of parts)
 

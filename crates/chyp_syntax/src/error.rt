@@ -5,9 +5,10 @@ use thiserror::Error;
 /// Why a chunk gives no tree.
 #[derive(Clone, Copy, Debug, PartialEq, Eq, Error)]
 pub enum ParseError {
-    /// The chunk is no small sentence.
-    #[error("the statement is not built yet")]
-    NotBuilt,
+    /// The chunk is no sentence. The tokens before this one begin a sentence, and with this one
+    /// they begin none; or they are all the tokens of the chunk.
+    #[error("no sentence goes on with token {token}")]
+    Syntax { token: u32 },
     /// A growth was refused.
     #[error("no memory")]
     NoMemory,

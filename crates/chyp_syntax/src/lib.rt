@@ -2,27 +2,43 @@
 //!
 //! [`chunks`] cuts a text's tokens in front of each statement keyword: the chunks tile the tokens,
 //! and each list of tokens has exactly one such list of chunks
-//! ([`each_text_has_one_list_of_chunks`]). [`parse`] gives the tree of a chunk by the grammar of
-//! small sentences, rewrites of one step between terms of `id` and `sw`, and refuses every other
-//! chunk. A chunk has one tree at most ([`each_chunk_has_one_tree_or_none`]). Trees hold no text: a
-//! name, an `=`, a `;` or a `sw` is named by its token's number within the chunk. Both calls take
-//! time in proportion to the tokens.
+//! ([`each_text_has_one_list_of_chunks`]). [`parse`] gives the tree of a chunk where its tokens are
+//! a sentence, by a grammar that is a relation between tokens and trees, and else names the first
+//! token with which they begin no sentence, whatever follows. A sentence has one tree
+//! ([`each_sentence_has_one_tree`]), each chunk is a sentence or fails at such a place
+//! ([`each_chunk_is_a_sentence_or_fails`]), and what begins the beginning of a sentence begins a
+//! sentence ([`each_beginning_of_a_prefix_is_one`]). Trees hold no text: a name, an `=`, a `;` or a
+//! `sw` is named by its token's number within the chunk. [`parse_small`] reads rewrites of one step
+//! between terms of `id` and `sw` alone, which are sentences with the same trees
+//! ([`each_small_sentence_is_a_sentence`]). All take time in proportion to the tokens.
 #![tactic(auto)]
 
 mod chunk;
 mod error;
-mod front;
+mod laws;
 mod parser;
+mod small;
+mod small_error;
+mod small_front;
 mod statement;
 mod step;
+mod steps;
 mod term;
+mod terms;
+mod tokens;
 
 pub use chunk::{Chunk, chunks, each_text_has_one_list_of_chunks};
 pub use error::ParseError;
-pub use parser::{each_chunk_has_one_tree_or_none, parse};
+pub use laws::{
+    each_beginning_of_a_prefix_is_one, each_chunk_is_a_sentence_or_fails,
+    each_sentence_has_one_tree, each_small_sentence_is_a_sentence,
+};
+pub use parser::parse;
+pub use small::{each_chunk_has_one_small_tree_or_none, parse_small};
+pub use small_error::SmallParseError;
 pub use statement::Ast;
-pub use step::{ReasonAst, StepAst, StepAsts};
-pub use term::{Spots, TermAst, TermAsts};
+pub use step::{ReasonAst, SignedAst, SignedAsts, StepAst, StepAsts};
+pub use term::{Numbers, Spots, TermAst, TermAsts};
 
 #[cfg(test)]
 mod tests;

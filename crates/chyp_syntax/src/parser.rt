@@ -1,61 +1,152 @@
 // From the tokens of a chunk to its tree.
-ghost use Rattle.std.specs.Prelude.{◌≡◌, ◌^◌, ◌<◌, length, List, IfOk};
+ghost use Rattle.std.specs.Prelude.{◌≡◌, ℕ, ◌^◌, ◌<◌, length, List, IfOk, Err};
 ghost use Rattle.chyp_lex.specs.declared.token.Token.{Token};
-ghost use Rattle.chyp_syntax.specs.Sentence.{numbered, IsRewrite, IsNoRewrite, IsSmallSentence, IsNoSmallSentence, HasOneTreeOrNone};
+ghost use Rattle.chyp_syntax.specs.Expected.{statement};
+ghost use Rattle.chyp_syntax.specs.Failing.{FailsAt};
+ghost use Rattle.chyp_syntax.specs.Numbered.{numbered, tokens_from, BeginsWithKind};
+ghost use Rattle.chyp_syntax.specs.Reads.{StopsAt};
+ghost use Rattle.chyp_syntax.specs.Sentence.{IsStatement, IsSentence};
 ghost use Rattle.chyp_syntax.specs.Statement.{statement_of};
 
-use crate::front::{expect, term};
-use crate::{Ast, ParseError, ReasonAst, StepAst, StepAsts};
+use crate::steps::steps;
+use crate::terms::{MOST_NESTED, term};
+use crate::tokens::{expect, expect_end, expect_name, is_kind, number};
+use crate::{Ast, ParseError};
 use chyp_lex::{Token, TokenKind};
 use std::alloc::Global;
 
-/// A small sentence has this many tokens at most.
-const MOST_TOKENS: usize = 512;
-
-/// The tree of a chunk, where its tokens are a small sentence: `rewrite NAME : TERM = TERM`, whose
-/// terms have `id`, `sw`, `;` and `*` alone, in at most 512 tokens.
+/// The tree of a chunk, where its tokens are a sentence.
 ///
-/// `NotBuilt` comes exactly where they are none. `NoMemory` may come at any point.
+/// `Syntax` comes exactly where they are none. Its `token` is the first with which the tokens up to
+/// it begin no sentence, whatever follows; where there is no such token, it is their number.
+/// `NoMemory` may come at any point.
 pub fn parse(alloc: Global, tokens: &[Token]) -> Result<Ast, ParseError>
     requires { length tokens.now < 2 ^ 32 }
-    ensures tree { IfOk result (λ ast. IsSmallSentence tokens.now (statement_of ast)) }
-    ensures not_built { result ≡ Err ParseError.NotBuilt → IsNoSmallSentence tokens.now }
+    ensures tree { IfOk result (λ ast. IsSentence tokens.now (statement_of ast)) }
+    ensures syntax { (k : ℕ) → result ≡ Err (ParseError.Syntax k) → FailsAt tokens.now k }
 {
-    if tokens.len() > MOST_TOKENS {
-        return Err(ParseError::NotBuilt);
-    }
-    rewrite(alloc, tokens)
+    statement(alloc, tokens)
 }
 
-/// Each list of tokens has exactly one tree of a small sentence, or none.
-pub fn each_chunk_has_one_tree_or_none()
-    ensures { (tokens : List Token) → HasOneTreeOrNone tokens }
-{}
-
-// The tree of a rewrite of one step, of any length.
-fn rewrite(alloc: Global, tokens: &[Token]) -> Result<Ast, ParseError>
+// The tree of a chunk, by its first word.
+fn statement(alloc: Global, tokens: &[Token]) -> Result<Ast, ParseError>
     requires { length tokens.now < 2 ^ 32 }
-    ensures tree { IfOk result (λ ast. IsRewrite (numbered tokens.now) (statement_of ast)) }
-    ensures none { result ≡ Err ParseError.NotBuilt → IsNoRewrite (numbered tokens.now) }
+    ensures tree { IfOk result (λ ast. IsStatement (numbered tokens.now) (statement_of ast)) }
+    ensures stops { (k : ℕ) → result ≡ Err (ParseError.Syntax k) → StopsAt statement tokens.now 0 k }
 {
-    expect(tokens, 0, TokenKind::WordRewrite)?;
+    let Some(word) = tokens.first() else {
+        return Err(ParseError::Syntax { token: 0 });
+    };
+    match word.kind {
+        TokenKind::WordGen => gen_decl(tokens),
+        TokenKind::WordLet => let_decl(alloc, tokens),
+        TokenKind::WordRule => rule_decl(alloc, tokens),
+        TokenKind::WordRewrite => rewrite_decl(alloc, tokens),
+        TokenKind::WordImport => import_decl(tokens),
+        TokenKind::WordShow => show_decl(tokens),
+        _ => Err(ParseError::Syntax { token: 0 }),
+    }
+}
+
+fn gen_decl(tokens: &[Token]) -> Result<Ast, ParseError>
+    requires few { length tokens.now < 2 ^ 32 }
+    requires begins { BeginsWithKind TokenKind.WordGen (tokens_from tokens.now 0) }
+    requires some { 0 < length tokens.now }
+    ensures tree { IfOk result (λ ast. IsStatement (numbered tokens.now) (statement_of ast)) }
+    ensures stops { (k : ℕ) → result ≡ Err (ParseError.Syntax k) → StopsAt statement tokens.now 0 k }
+{
     expect(tokens, 1, TokenKind::Ident)?;
     expect(tokens, 2, TokenKind::Colon)?;
-    let left = term(alloc, tokens, 3)?;
-    expect(tokens, left.end, TokenKind::Equals)?;
-    let right = term(alloc, tokens, left.end + 1)?;
-    if right.end < tokens.len() {
-        return Err(ParseError::NotBuilt);
-    }
-    let mut steps = StepAsts::new(alloc);
-    steps.push(StepAst {
-        equals: left.end as u32,
-        goal: Some(right.term),
-        reason: ReasonAst::Plain,
-    })?;
-    Ok(Ast::RewriteDecl {
-        name: 1,
-        first: left.term,
-        steps,
+    let dom = number(tokens, 3)?;
+    expect(tokens, 4, TokenKind::Arrow)?;
+    let cod = number(tokens, 5)?;
+    expect_end(tokens, 6)?;
+    let name = 1;
+    Ok(Ast::GenDecl { name, dom, cod })
+}
+
+fn let_decl(alloc: Global, tokens: &[Token]) -> Result<Ast, ParseError>
+    requires few { length tokens.now < 2 ^ 32 }
+    requires begins { BeginsWithKind TokenKind.WordLet (tokens_from tokens.now 0) }
+    requires some { 0 < length tokens.now }
+    ensures tree { IfOk result (λ ast. IsStatement (numbered tokens.now) (statement_of ast)) }
+    ensures stops { (k : ℕ) → result ≡ Err (ParseError.Syntax k) → StopsAt statement tokens.now 0 k }
+{
+    expect(tokens, 1, TokenKind::Ident)?;
+    expect(tokens, 2, TokenKind::Equals)?;
+    let (term, end) = term(alloc, tokens, 3, MOST_NESTED)?;
+    expect_end(tokens, end)?;
+    let name = 1;
+    Ok(Ast::LetDecl { name, term })
+}
+
+fn rule_decl(alloc: Global, tokens: &[Token]) -> Result<Ast, ParseError>
+    requires few { length tokens.now < 2 ^ 32 }
+    requires begins { BeginsWithKind TokenKind.WordRule (tokens_from tokens.now 0) }
+    requires some { 0 < length tokens.now }
+    ensures tree { IfOk result (λ ast. IsStatement (numbered tokens.now) (statement_of ast)) }
+    ensures stops { (k : ℕ) → result ≡ Err (ParseError.Syntax k) → StopsAt statement tokens.now 0 k }
+{
+    expect(tokens, 1, TokenKind::Ident)?;
+    expect(tokens, 2, TokenKind::Colon)?;
+    let (left, middle) = term(alloc, tokens, 3, MOST_NESTED)?;
+    expect(tokens, middle, TokenKind::Equals)?;
+    let (right, end) = term(alloc, tokens, middle + 1, MOST_NESTED)?;
+    expect_end(tokens, end)?;
+    let name = 1;
+    let equals = middle as u32;
+    Ok(Ast::RuleDecl {
+        name,
+        left,
+        equals,
+        right,
     })
+}
+
+fn rewrite_decl(alloc: Global, tokens: &[Token]) -> Result<Ast, ParseError>
+    requires few { length tokens.now < 2 ^ 32 }
+    requires begins { BeginsWithKind TokenKind.WordRewrite (tokens_from tokens.now 0) }
+    requires some { 0 < length tokens.now }
+    ensures tree { IfOk result (λ ast. IsStatement (numbered tokens.now) (statement_of ast)) }
+    ensures stops { (k : ℕ) → result ≡ Err (ParseError.Syntax k) → StopsAt statement tokens.now 0 k }
+{
+    expect(tokens, 1, TokenKind::Ident)?;
+    expect(tokens, 2, TokenKind::Colon)?;
+    let (first, end) = term(alloc, tokens, 3, MOST_NESTED)?;
+    let steps = steps(alloc, tokens, end)?;
+    let name = 1;
+    Ok(Ast::RewriteDecl { name, first, steps })
+}
+
+fn import_decl(tokens: &[Token]) -> Result<Ast, ParseError>
+    requires few { length tokens.now < 2 ^ 32 }
+    requires begins { BeginsWithKind TokenKind.WordImport (tokens_from tokens.now 0) }
+    requires some { 0 < length tokens.now }
+    ensures tree { IfOk result (λ ast. IsStatement (numbered tokens.now) (statement_of ast)) }
+    ensures stops { (k : ℕ) → result ≡ Err (ParseError.Syntax k) → StopsAt statement tokens.now 0 k }
+{
+    expect(tokens, 1, TokenKind::Ident)?;
+    let module = 1;
+    if !is_kind(tokens, 2, TokenKind::WordAs) {
+        expect_end(tokens, 2)?;
+        let prefix = None;
+        return Ok(Ast::ImportDecl { module, prefix });
+    }
+    expect(tokens, 3, TokenKind::Ident)?;
+    expect_end(tokens, 4)?;
+    let prefix = Some(3);
+    Ok(Ast::ImportDecl { module, prefix })
+}
+
+fn show_decl(tokens: &[Token]) -> Result<Ast, ParseError>
+    requires few { length tokens.now < 2 ^ 32 }
+    requires begins { BeginsWithKind TokenKind.WordShow (tokens_from tokens.now 0) }
+    requires some { 0 < length tokens.now }
+    ensures tree { IfOk result (λ ast. IsStatement (numbered tokens.now) (statement_of ast)) }
+    ensures stops { (k : ℕ) → result ≡ Err (ParseError.Syntax k) → StopsAt statement tokens.now 0 k }
+{
+    expect_name(tokens, 1)?;
+    expect_end(tokens, 2)?;
+    let name = 1;
+    Ok(Ast::ShowDecl { name })
 }

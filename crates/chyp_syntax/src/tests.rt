@@ -57,12 +57,130 @@ fn a_rewrite_of_wires_has_its_tree(rt: HostRuntime) -> Result<(), Fail> {
         TokenKind::WordId,
     ];
     let tree = "RewriteDecl { name: 1, first: Chain { parts: Items { items: \
-        [Swap { token: 3 }, Swap { token: 5 }] }, \
+        [Swap { token: 3, places: None }, Swap { token: 5, places: None }] }, \
         semis: Items { items: [4] } }, steps: Items { items: [StepAst { equals: 6, \
         goal: Some(Beside(Items { items: [Wire, Wire] })), reason: Plain }] } }";
     let tokens = tokens_of(rt.alloc(), &kinds)?;
-    let ast = parse(rt.alloc(), &tokens)?;
+    let ast = parse_small(rt.alloc(), &tokens)?;
     assert_eq!(rt; format!(in rt.alloc(); "{ast:?}")?.as_str(), tree);
-    each_chunk_has_one_tree_or_none();
+    each_chunk_has_one_small_tree_or_none();
+    Ok(())
+}
+
+// A tree, or the place where the chunk fails.
+fn told(alloc: Global, kinds: &[TokenKind]) -> Result<String, AllocError> {
+    let tokens = tokens_of(alloc, kinds)?;
+    if tokens.len() > 1000 {
+        return format!(in alloc; "too long");
+    }
+    match parse(alloc, &tokens) {
+        Ok(ast) => format!(in alloc; "{ast:?}"),
+        Err(ParseError::Syntax { token }) => format!(in alloc; "fails at {token}"),
+        Err(ParseError::NoMemory) => format!(in alloc; "no memory"),
+    }
+}
+
+#[test]
+fn statements_have_their_trees(rt: HostRuntime) -> Result<(), Fail> {
+    use TokenKind::*;
+    // rewrite a : f = ? by simp(r, -r)
+    let kinds = [
+        WordRewrite,
+        Ident,
+        Colon,
+        Ident,
+        Equals,
+        QuestionMark,
+        WordBy,
+        WordSimp,
+        LeftParenthesis,
+        Ident,
+        Comma,
+        Minus,
+        Ident,
+        RightParenthesis,
+    ];
+    let tree = "RewriteDecl { name: 1, first: Named(3), steps: Items { items: [StepAst { \
+        equals: 4, goal: None, reason: Simp(Items { items: [SignedAst { minus: false, name: 9 }, \
+        SignedAst { minus: true, name: 12 }] }) }] } }";
+    assert_eq!(rt; told(rt.alloc(), &kinds)?.as_str(), tree);
+    // let x = f * g ; sw[0]
+    let kinds = [
+        WordLet,
+        Ident,
+        Equals,
+        Ident,
+        Star,
+        Ident,
+        Semicolon,
+        WordSw,
+        LeftBracket,
+        Number,
+        RightBracket,
+    ];
+    let tree = "LetDecl { name: 1, term: Chain { parts: Items { items: [Beside(Items { items: \
+        [Named(3), Named(5)] }), Swap { token: 7, places: Some(Items { items: [0] }) }] }, \
+        semis: Items { items: [6] } } }";
+    assert_eq!(rt; told(rt.alloc(), &kinds)?.as_str(), tree);
+    // import m as p
+    let kinds = [WordImport, Ident, WordAs, Ident];
+    let tree = "ImportDecl { module: 1, prefix: Some(3) }";
+    assert_eq!(rt; told(rt.alloc(), &kinds)?.as_str(), tree);
+    Ok(())
+}
+
+#[test]
+fn a_chunk_fails_at_its_place(rt: HostRuntime) -> Result<(), Fail> {
+    use TokenKind::*;
+    // gen f :
+    assert_eq!(rt;
+        told(rt.alloc(), &[WordGen, Ident, Colon])?.as_str(),
+        "fails at 3"
+    );
+    // rewrite a : f =
+    let kinds = [WordRewrite, Ident, Colon, Ident, Equals];
+    assert_eq!(rt; told(rt.alloc(), &kinds)?.as_str(), "fails at 5");
+    // rewrite a : f = ? = f
+    let kinds = [
+        WordRewrite,
+        Ident,
+        Colon,
+        Ident,
+        Equals,
+        QuestionMark,
+        Equals,
+        Ident,
+    ];
+    assert_eq!(rt; told(rt.alloc(), &kinds)?.as_str(), "fails at 6");
+    each_chunk_is_a_sentence_or_fails();
+    each_beginning_of_a_prefix_is_one();
+    each_sentence_has_one_tree();
+    each_small_sentence_is_a_sentence();
+    Ok(())
+}
+
+// `let x =` and a name in parentheses.
+fn nested(alloc: Global, depth: usize) -> Result<Vec<TokenKind>, AllocError> {
+    let mut kinds = Vec::from_array(
+        alloc,
+        [TokenKind::WordLet, TokenKind::Ident, TokenKind::Equals],
+    )?;
+    for _ in 0..depth {
+        kinds.push(TokenKind::LeftParenthesis)?;
+    }
+    kinds.push(TokenKind::Ident)?;
+    for _ in 0..depth {
+        kinds.push(TokenKind::RightParenthesis)?;
+    }
+    Ok(kinds)
+}
+
+#[test]
+fn parentheses_nest_256_deep(rt: HostRuntime) -> Result<(), Fail> {
+    let deep = nested(rt.alloc(), 256)?;
+    let tree = "LetDecl { name: 1, term: Named(259) }";
+    assert_eq!(rt; told(rt.alloc(), &deep)?.as_str(), tree);
+    let deeper = nested(rt.alloc(), 257)?;
+    assert_eq!(rt; told(rt.alloc(), &deeper)?.as_str(), "fails at 259");
     Ok(())
 }

@@ -6,6 +6,7 @@ abbrev pub place_of : ℕ → List ℕ → Option ℕ
 place_of w [] = None
 place_of w (k ∷ ks) = cond (eqb k w) (Some 0) (option_map suc (place_of w ks))
 
+-- there is a place
 abbrev pub is_there : Option ℕ → Bool
 is_there None = false
 is_there (Some k) = true
