@@ -7,7 +7,7 @@ use Rattle.chyp_lex.specs.Tokens.{AreTokens, AreSpans}
 use Rattle.chyp_syntax.specs.declared.chunk.Chunk.{Chunk}
 use Rattle.chyp_syntax.specs.Chunk.{AreChunks}
 use Rattle.chyp_app.specs.Output.{HasOneOutput, EachTextHasOneOutput, CountsStatements, text_limit, too_long}
-use Rattle.chyp_app.specs.Headline.{BeginsToCheck, Begins, EndsWell}
+use Rattle.chyp_app.specs.Headline.{BeginsToCheck, Begins, EndsSo, EndsWell}
 
 pub on_err : {T E : Type 0} (result : Result T E) (P : Type 0) → P → OnErr result P
 on_err (Ok x) P p = tt
@@ -15,15 +15,15 @@ on_err (Err e) P p = p
 
 -- nothing was counted
 pub counts_nothing : (text : List ℕ) (steps : ℕ) → HasOneOutput text → BeginsToCheck text steps steps
-counts_nothing text steps one = record { output = one.output; is_output = one.is_output; counts = omega arith }
+counts_nothing text steps one = record { output = one.output; is_output = one.is_output; rises = omega arith; counts = omega arith }
 
 -- no more than the chunks were counted
 pub counts_chunks : CountsStatements → (text : List ℕ) (tokens : List Token) (chunks : List Chunk) (steps steps_now : ℕ) → length text ≤ text_limit
-    → AreTokens (text ++ []) tokens → AreChunks tokens chunks → steps_now ≤ steps + length chunks → BeginsToCheck text steps steps_now
-counts_chunks law text tokens chunks steps steps_now short ts cs few =
+    → AreTokens (text ++ []) tokens → AreChunks tokens chunks → steps ≤ steps_now → steps_now ≤ steps + length chunks → BeginsToCheck text steps steps_now
+counts_chunks law text tokens chunks steps steps_now short ts cs some few =
     let P : List ℕ → Type 0 = λ t. AreTokens t tokens in
     let o = law text tokens chunks short (subst P (append-nil text) ts) cs in
-    record { output = o.0; is_output = o.1; counts = let e = o.2 in omega arith }
+    record { output = o.0; is_output = o.1; rises = some; counts = let e = o.2 in omega arith }
 
 -- the tokens of a text lie in it
 pub text_spans : (text : List ℕ) (tokens : List Token) → AreSpans (length (text ++ [])) tokens → AreSpans (length text) tokens
@@ -35,7 +35,7 @@ begins_nothing law None held steps = tt
 begins_nothing law (Some text) None steps = tt
 begins_nothing law (Some text) (Some h) steps =
     let one = law text in
-    record { output = one.output; is_output = one.is_output; written = 0; writes = ap Some (sym (append-nil h)); counts = omega arith }
+    record { output = one.output; is_output = one.is_output; written = 0; writes = ap Some (sym (append-nil h)); rises = omega arith; counts = omega arith }
 
 -- what was given is no longer than what was left
 pub long_text : (left left_now : Option (List ℕ)) (given : List ℕ) → Consumes left left_now given → text_limit < length given → IfSome left (λ text. text_limit < length text)
@@ -48,7 +48,7 @@ pub begins_long : (left held : Option (List ℕ)) (steps : ℕ) → IfSome left 
 begins_long None held steps long = tt
 begins_long (Some text) None steps long = tt
 begins_long (Some text) (Some h) steps long =
-    record { output = _; is_output = too_long long; written = 0; writes = ap Some (sym (append-nil h)); counts = omega arith }
+    record { output = _; is_output = too_long long; written = 0; writes = ap Some (sym (append-nil h)); rises = omega arith; counts = omega arith }
 
 pub ends_long : (A B : Type 0) (left held : Option (List ℕ)) (steps : ℕ) → IfSome left (λ text. text_limit < length text)
     → IfSome left (λ text. IfSome held (λ h. A → B → EndsWell text h held steps steps TooLong))
@@ -56,3 +56,14 @@ ends_long A B None held steps long = tt
 ends_long A B (Some text) None steps long = tt
 ends_long A B (Some text) (Some h) steps long = λ a b.
     inr (record { output = _; is_output = too_long long; writes = ap Some (sym (append-nil h)); ends = refl; counts = omega arith })
+
+-- nothing was counted of a text that is told
+pub counted_nothing : EachTextHasOneOutput → (left : Option (List ℕ)) (steps : ℕ) → IfSome left (λ text. BeginsToCheck text steps steps)
+counted_nothing law None steps = tt
+counted_nothing law (Some text) steps = counts_nothing text steps (law text)
+
+-- nothing is counted of a text that is too long
+pub judged_long : (A B : Type 0) (left : Option (List ℕ)) (steps : ℕ) → IfSome left (λ text. text_limit < length text)
+    → IfSome left (λ text. A → B → EndsSo text steps steps TooLong)
+judged_long A B None steps long = tt
+judged_long A B (Some text) steps long = λ a b. inr (record { output = _; is_output = too_long long; ends = refl; counts = omega arith })

@@ -1,10 +1,3 @@
 mod CheckLemmas
-mod ExpansionLemmas
-mod JudgedLemmas
-mod NameLemmas
 mod OutputLemmas
-mod PlainLemmas
 mod ReportLemmas
-mod SmallLemmas
-mod SpanLemmas
-mod VerdictLemmas

@@ -16,7 +16,19 @@ pub record Checks (text report : List ℕ) (status : Status) (steps steps_now : 
 pub record BeginsToCheck (text : List ℕ) (steps steps_now : ℕ) : Type 0 where
   pub output : Output
   pub is_output : IsOutput text output
+  pub rises : steps ≤ steps_now
   pub counts : steps_now ≤ steps + output.checks
+
+-- the status is that of the text's output, and as many steps were counted as statements are checked
+pub record Judges (text : List ℕ) (steps steps_now : ℕ) (status : Status) : Type 0 where
+  pub output : Output
+  pub is_output : IsOutput text output
+  pub ends : status ≡ output.status
+  pub counts : steps_now ≡ steps + output.checks
+
+-- the run judged so, or memory was wanting
+abbrev pub EndsSo : List ℕ → ℕ → ℕ → Status → Type 0
+EndsSo text steps steps_now status = (status ≡ NoMemory) ⊎ Judges text steps steps_now status
 
 -- The run gave what it is to give for the text: the sink holds the output's text behind what it held, the status is the
 -- output's, and as many steps were counted as statements are checked.
@@ -37,6 +49,7 @@ pub record Begins (text held : List ℕ) (held_now : Option (List ℕ)) (steps s
   pub is_output : IsOutput text output
   pub written : ℕ
   pub writes : held_now ≡ Some (held ++ take written output.text)
+  pub rises : steps ≤ steps_now
   pub counts : steps_now ≤ steps + output.checks
 
 -- at most one of the two counts of faults rose, and the status says which; want of memory is no fault

@@ -1,11 +1,6 @@
-pub mod Environment
-pub mod Expansion
 pub mod Faults
 pub mod Headline
-pub mod Judged
 pub mod Output
-pub mod Place
-pub mod Plain
+pub mod Page
 pub mod Report
-pub mod Statement
 pub mod Words

@@ -8,7 +8,7 @@ use Rattle.chyp_lex.specs.Tokens.{AreTokens}
 use Rattle.chyp_lex.specs.declared.token.Token.{Token}
 use Rattle.chyp_syntax.specs.Chunk.{AreChunks}
 use Rattle.chyp_syntax.specs.declared.chunk.Chunk.{Chunk}
-use Rattle.chyp_app.specs.Judged.{AreVerdicts}
+use Rattle.chyp_check.specs.Verdicts.{AreVerdicts}
 use Rattle.chyp_app.specs.Report.{report_of}
 
 -- the text that is written, the status that the run ends with, and how many statements are checked

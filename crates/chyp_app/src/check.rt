@@ -3,21 +3,20 @@ ghost use Rattle.std.specs.Prelude.{◌≡◌, ◌≤◌, length, IfOk, OnErr};
 ghost use Rattle.chyp_app.specs.Output.{status_of, text_limit, CountsStatements, EachTextHasOneOutput};
 ghost use Rattle.chyp_app.specs.Headline.{Checks, BeginsToCheck};
 
-use crate::judge::judge_all;
 use crate::report::{good_count, report};
 use chyp_base::{NoMemory, Status, Steps, Verdict};
-use chyp_lex::{every_text_has_one_token_list, lex};
-use chyp_syntax::{
-    chunks, each_chunk_has_one_small_tree_or_none, each_text_has_one_list_of_chunks,
-};
-use chyp_theory::{derivations_are_equations, wires_are_permutations};
+use chyp_check::{check_each, each_text_has_one_list_of_verdicts};
+use chyp_lex::{each_name_is_text, every_text_has_one_token_list, lex};
+use chyp_syntax::{chunks, each_text_has_one_list_of_chunks};
 use std::alloc::Global;
 use std::sync::ledger::Ledger;
 
 /// The report of a text, and the status that it gives.
 #[derive(Drop)]
 pub struct Checked {
+    /// A line for each statement, and the total.
     pub report: Vec<u8>,
+    /// `Done` where every statement is good, and else `SomeNotGood`.
     pub status: Status,
 }
 
@@ -39,12 +38,14 @@ pub fn each_text_has_one_output()
 {
     every_text_has_one_token_list();
     each_text_has_one_list_of_chunks();
-    each_chunk_has_one_small_tree_or_none();
-    derivations_are_equations();
-    wires_are_permutations();
+    each_text_has_one_list_of_verdicts();
 }
 
 /// Checks each statement of a text, at one step each, and makes the report.
+///
+/// # Errors
+///
+/// `NoMemory` may come at any point; then no more steps were counted than there are statements.
 pub fn check_text<G: Ledger>(
     alloc: Global,
     text: &[u8],
@@ -55,10 +56,11 @@ pub fn check_text<G: Ledger>(
     ensures begins { OnErr result (BeginsToCheck text.now steps.old steps.new) }
 {
     each_text_has_one_output();
+    each_name_is_text();
     let tokens = lex(alloc, text, b"")?;
     let chunks = chunks(alloc, &tokens)?;
-    let verdicts = judge_all(alloc, text, &tokens, &chunks, steps)?;
-    let report = report(alloc, text, &tokens, &chunks, &verdicts)?;
-    let status = status_of(&verdicts);
+    let verdicts = check_each(alloc, text, &tokens, &chunks, steps)?;
+    let report = report(alloc, text, &tokens, &chunks, verdicts.as_slice())?;
+    let status = status_of(verdicts.as_slice());
     Ok(Checked { report, status })
 }

@@ -2,24 +2,18 @@
 //!
 //! `run` is the whole program over an outside that is handed in: a source of bytes, a sink for bytes, a library of
 //! modules and a counter of steps. Its contract says which bytes it writes and which status it ends with, for every
-//! text: `proved` stands in what it writes only where the laws of symmetric monoidal categories derive the equation,
-//! and `differs` only where they can't. It also says what may come where the outside fails. `main` makes the real
-//! outside, calls `run`, and says a failure on standard error.
+//! text, where the outside tells what it holds: `proved` stands in what it writes only where the laws of symmetric
+//! monoidal categories derive the equation, and `differs` only where they can't. It also says what may come where the
+//! outside fails. `main` makes the real outside, calls `run`, and says a failure on standard error.
 #![tactic(auto)]
 
 mod check;
-mod expand;
-mod judge;
-mod names;
-mod place;
+mod page;
 mod read;
 mod report;
 mod run;
-mod statement;
 #[cfg(test)]
 mod tests;
-mod wiring;
-mod write;
 
 ghost use Rattle.std.specs.Prelude.{◌≡◌, ◌<◌};
 

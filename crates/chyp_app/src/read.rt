@@ -19,6 +19,10 @@ pub enum ReadStop {
 }
 
 /// The text that a source has left; where it is longer than the limit, its front with one byte more.
+///
+/// # Errors
+///
+/// `Failed` where a read failed, `NoMemory` where the text can't be kept.
 pub fn read_text<S: Source>(alloc: Global, source: &mut S) -> Result<Vec<u8>, ReadStop>
     requires { S.faults source.old < 2 ^ 64 - 1 }
     ensures bytes { IfOk result (λ text. Consumes (S.left source.old) (S.left source.new) text.items) }

@@ -2,12 +2,12 @@
 ghost use Rattle.std.specs.Prelude.{◌≡◌, ◌⊎◌, ◌-◌, ◌^◌, ◌<◌, ◌≤◌, List, ℕ, length, IfSome, IsTrue, ◌↔◌, map};
 ghost use Rattle.std.specs.Io.KnownBytes.{Consumes, IsAtEnd};
 ghost use Rattle.chyp_app.specs.Words.{Accepts, texts_of};
-ghost use Rattle.chyp_app.specs.Headline.{Begins, EndsWell, ComesBy};
+ghost use Rattle.chyp_app.specs.Headline.{Begins, BeginsToCheck, EndsSo, EndsWell, ComesBy};
 
 use crate::check::{check_text, each_text_has_one_output};
 use crate::read::{ReadStop, TEXT_LIMIT, read_text};
-use crate::write::write_text;
 use chyp_base::{Failed, Library, NoMemory, Sink, Source, Status, Steps};
+use chyp_session::write_text;
 use std::alloc::Global;
 use std::sync::ledger::Ledger;
 
@@ -35,6 +35,10 @@ fn check<S: Source, K: Sink, G: Ledger>(
         EndsWell text held (K.held sink.new) steps.old steps.new result)) }
     ensures begun { IfSome (S.left source.old) (λ text. IfSome (K.held sink.old) (λ held.
         Begins text held (K.held sink.new) steps.old steps.new)) }
+    ensures judged { IfSome (S.left source.old) (λ text.
+        S.faults source.new ≡ S.faults source.old → K.faults sink.new ≡ K.faults sink.old →
+        EndsSo text steps.old steps.new result) }
+    ensures counted { IfSome (S.left source.old) (λ text. BeginsToCheck text steps.old steps.new) }
     ensures causes { ComesBy (S.faults source.old) (S.faults source.new) (K.faults sink.old) (K.faults sink.new) result }
     ensures given { result ≡ Status.ReadFault → (given : List ℕ) × Consumes (S.left source.old) (S.left source.new) given × (length given ≤ TEXT_LIMIT) }
     ensures untouched { result ≡ Status.ReadFault → (sink.new ≡ sink.old) × (steps.new ≡ steps.old) }
@@ -84,6 +88,12 @@ pub fn run<S: Source, K: Sink, L: Library, G: Ledger>(
     // However it ends, what was written is the front of that output, and no more steps were counted.
     ensures begun { Accepts (texts_of words.now) → IfSome (S.left source.old) (λ text. IfSome (K.held sink.old) (λ held.
         Begins text held (K.held sink.new) steps.old steps.new)) }
+
+    // Whether the sink tells what it holds or not: the status and the steps are those of the output.
+    ensures judged { Accepts (texts_of words.now) → IfSome (S.left source.old) (λ text.
+        S.faults source.new ≡ S.faults source.old → K.faults sink.new ≡ K.faults sink.old →
+        EndsSo text steps.old steps.new result) }
+    ensures counted { Accepts (texts_of words.now) → IfSome (S.left source.old) (λ text. BeginsToCheck text steps.old steps.new) }
 
     // Words are refused exactly where they are none of the accepted lists, and then nothing is touched.
     ensures bad_words { result ≡ Status.BadWords → ¬ Accepts (texts_of words.now) }

@@ -14,7 +14,7 @@ struct Case {
     written: &'static str,
 }
 
-const CASES: [Case; 15] = [
+const CASES: [Case; 27] = [
     Case {
         text: b"",
         status: Status::Done,
@@ -32,8 +32,8 @@ const CASES: [Case; 15] = [
     },
     Case {
         text: b"gen f : 1 -> 1",
-        status: Status::SomeNotGood,
-        written: "1:1 gen f not-built\ntotal 1 good 0\n",
+        status: Status::Done,
+        written: "1:1 gen f ok\ntotal 1 good 1\n",
     },
     // Swaps of neighbours: the two ways to turn three wires round are one.
     Case {
@@ -41,41 +41,99 @@ const CASES: [Case; 15] = [
         status: Status::Done,
         written: "2:1 rewrite yb proved\ntotal 1 good 1\n",
     },
-    // The two turns of three wires are inverse, and not one.
+    // Generators slide through a swap.
     Case {
-        text: b"rewrite a : sw * id ; id * sw = id * sw ; sw * id rewrite b : sw * id ; id * sw ; id * sw ; sw * id = id * id * id",
-        status: Status::SomeNotGood,
-        written: "1:1 rewrite a step 1 differs\n1:51 rewrite b proved\ntotal 2 good 1\n",
+        text: b"gen f : 1 -> 1\ngen g : 1 -> 1\nrewrite n : f * g ; sw = sw ; g * f\n",
+        status: Status::Done,
+        written: "1:1 gen f ok\n2:1 gen g ok\n3:1 rewrite n proved\ntotal 3 good 3\n",
     },
-    // Wires that don't meet.
+    // But side by side they don't commute.
     Case {
-        text: b"rewrite a : sw ; id = sw",
+        text: b"gen f : 1 -> 1\ngen g : 1 -> 1\nrewrite x : f * g = g * f\n",
         status: Status::SomeNotGood,
-        written: "1:1 rewrite a not-built\ntotal 1 good 0\n",
+        written: "1:1 gen f ok\n2:1 gen g ok\n3:1 rewrite x step 1 differs\ntotal 3 good 2\n",
     },
-    // Sides of two types.
+    // The interchange law, in two steps.
     Case {
-        text: b"rewrite a : sw = id",
-        status: Status::SomeNotGood,
-        written: "1:1 rewrite a not-built\ntotal 1 good 0\n",
+        text: b"gen f : 1 -> 1\ngen g : 1 -> 1\nrewrite a : f * id ; id * g = id * g ; f * id = f * g\n",
+        status: Status::Done,
+        written: "1:1 gen f ok\n2:1 gen g ok\n3:1 rewrite a proved\ntotal 3 good 3\n",
     },
-    // A name that is bound twice, first by a statement that is not good.
+    // A scalar doesn't vanish.
     Case {
-        text: b"let a = id\nrewrite a : id = id\nrewrite b : id = id",
+        text: b"gen s : 0 -> 0\ngen f : 1 -> 1\nrewrite a : f * s = f\n",
         status: Status::SomeNotGood,
-        written: "1:1 let a not-built\n2:1 rewrite a not-built\n3:1 rewrite b proved\ntotal 3 good 1\n",
+        written: "1:1 gen s ok\n2:1 gen f ok\n3:1 rewrite a step 1 differs\ntotal 3 good 2\n",
+    },
+    // Scalars commute.
+    Case {
+        text: b"gen c : 0 -> 1\ngen k : 0 -> 1\ngen d : 1 -> 0\nrewrite e : (c ; d) * (k ; d) = (k ; d) * (c ; d)\n",
+        status: Status::Done,
+        written: "1:1 gen c ok\n2:1 gen k ok\n3:1 gen d ok\n4:1 rewrite e proved\ntotal 4 good 4\n",
+    },
+    // The first of two statements with one name binds it.
+    Case {
+        text: b"gen f : 1 -> 1\ngen f : 0 -> 1\nrewrite a : f ; f = f ; f",
+        status: Status::SomeNotGood,
+        written: "1:1 gen f ok\n2:1 gen f declared at 2:5\n3:1 rewrite a proved\ntotal 3 good 2\n",
+    },
+    // Faults of names.
+    Case {
+        text: b"gen f : 1 -> 1\nrule r : f = f\nlet x = r\nlet y = x\nlet z = zz\n",
+        status: Status::SomeNotGood,
+        written: "1:1 gen f ok\n2:1 rule r ok\n3:1 let x kind at 3:9\n4:1 let y broken at 4:9\n5:1 let z unknown at 5:9\ntotal 5 good 2\n",
+    },
+    // Types, places and ports.
+    Case {
+        text: b"gen m : 2 -> 1\nlet x = m ; m\nlet y = sw[0,0]\ngen a : 64 -> 0\ngen b : 65 -> 0\n",
+        status: Status::SomeNotGood,
+        written: "1:1 gen m ok\n2:1 let x type at 2:11\n3:1 let y type at 3:9\n4:1 gen a ok\n5:1 gen b too-big\ntotal 5 good 2\n",
+    },
+    // A statement that is cut off.
+    Case {
+        text: b"gen f : 1 -> 1\nrewrite a : f =",
+        status: Status::SomeNotGood,
+        written: "1:1 gen f ok\n2:1 rewrite a syntax at 2:16\ntotal 2 good 1\n",
+    },
+    Case {
+        text: b"gen f : 1 -> 1\nrewrite a : f",
+        status: Status::SomeNotGood,
+        written: "1:1 gen f ok\n2:1 rewrite a open\ntotal 2 good 1\n",
+    },
+    // One wire doesn't fit two.
+    Case {
+        text: b"rewrite a : id ; sw = sw",
+        status: Status::SomeNotGood,
+        written: "1:1 rewrite a type at 1:16\ntotal 1 good 0\n",
+    },
+    Case {
+        text: b"rewrite a : id\nrewrite a : id = id",
+        status: Status::SomeNotGood,
+        written: "1:1 rewrite a open\n2:1 rewrite a declared at 2:9\ntotal 2 good 0\n",
+    },
+    // A rewrite with a step by a rule is not judged, and is no rule.
+    Case {
+        text: b"gen f : 1 -> 1\nrule r : f = f\nrewrite a : f = f by r\nrewrite b : id = id by a",
+        status: Status::SomeNotGood,
+        written: "1:1 gen f ok\n2:1 rule r ok\n3:1 rewrite a not-built\n4:1 rewrite b unproved at 4:24\ntotal 4 good 2\n",
+    },
+    // A proved rewrite is a rule.
+    Case {
+        text: b"gen f : 1 -> 1\nrewrite a : f = f\nrewrite b : id = id by a\nrewrite c : f = ? by a",
+        status: Status::SomeNotGood,
+        written: "1:1 gen f ok\n2:1 rewrite a proved\n3:1 rewrite b not-built\n4:1 rewrite c open\ntotal 4 good 2\n",
     },
     // A dotted name binds nothing.
     Case {
         text: b"rewrite a.b : id = id",
         status: Status::SomeNotGood,
-        written: "1:1 rewrite a.b not-built\ntotal 1 good 0\n",
+        written: "1:1 rewrite a.b syntax at 1:9\ntotal 1 good 0\n",
     },
     // What stands before the first keyword is one statement.
     Case {
         text: b"x y z show q type type",
         status: Status::SomeNotGood,
-        written: "1:1 stray - not-built\n1:7 show q not-built\n1:14 type - not-built\n1:19 type - not-built\ntotal 4 good 0\n",
+        written: "1:1 stray - syntax at 1:1\n1:7 show q unknown at 1:12\n1:14 type - syntax at 1:14\n1:19 type - syntax at 1:19\ntotal 4 good 0\n",
     },
     Case {
         text: b"\n\n  import m as n",
@@ -84,20 +142,32 @@ const CASES: [Case; 15] = [
     },
     // Bytes in a comment are skipped, whatever they are.
     Case {
-        text: b"# \xFF\nrewrite n : id = id # end",
+        text: b"# \xFF\ngen f : 1 -> 1\n",
         status: Status::Done,
-        written: "2:1 rewrite n proved\ntotal 1 good 1\n",
+        written: "2:1 gen f ok\ntotal 1 good 1\n",
     },
     Case {
         text: b"\xFF",
         status: Status::SomeNotGood,
-        written: "1:1 stray - not-built\ntotal 1 good 0\n",
+        written: "1:1 stray - syntax at 1:1\ntotal 1 good 0\n",
     },
     // A byte order mark is a bad token.
     Case {
         text: b"\xEF\xBB\xBFrewrite n : id = id",
         status: Status::SomeNotGood,
-        written: "1:1 stray - not-built\n1:4 rewrite n proved\ntotal 2 good 1\n",
+        written: "1:1 stray - syntax at 1:1\n1:4 rewrite n proved\ntotal 2 good 1\n",
+    },
+    // The first fault in the order of refusals decides.
+    Case {
+        text: b"gen f : 1 -> 1\nlet g = h\nlet f = zz\nshow g\nlet k = g ; r ; zz\nrule r : f = g * f\n",
+        status: Status::SomeNotGood,
+        written: "1:1 gen f ok\n2:1 let g unknown at 2:9\n3:1 let f declared at 3:5\n4:1 show g ok\n5:1 let k broken at 5:9\n6:1 rule r broken at 6:14\ntotal 6 good 2\n",
+    },
+    // Terms that double: the tenth has 1,024 generators.
+    Case {
+        text: b"gen f : 1 -> 1\nlet a1 = f ; f\nlet a2 = a1 ; a1\nlet a3 = a2 ; a2\nlet a4 = a3 ; a3\nlet a5 = a4 ; a4\nlet a6 = a5 ; a5\nlet a7 = a6 ; a6\nlet a8 = a7 ; a7\nlet a9 = a8 ; a8\nlet a10 = a9 ; a9\nlet a11 = a10 ; a10\n",
+        status: Status::SomeNotGood,
+        written: "1:1 gen f ok\n2:1 let a1 ok\n3:1 let a2 ok\n4:1 let a3 ok\n5:1 let a4 ok\n6:1 let a5 ok\n7:1 let a6 ok\n8:1 let a7 ok\n9:1 let a8 ok\n10:1 let a9 ok\n11:1 let a10 ok\n12:1 let a11 too-big\ntotal 12 good 11\n",
     },
 ];
 
@@ -213,27 +283,19 @@ fn a_text_past_the_limit_is_refused(rt: HostRuntime) -> Result<(), Fail> {
     Ok(())
 }
 
-// A rewrite of so many parts on its left side, whose tokens are six and two for each `;`.
-fn long_rewrite(alloc: Global, semicolons: usize) -> Result<Vec<u8>, Fail> {
-    let mut text = Vec::from_slice(alloc, b"rewrite n : id")?;
-    for _ in 0..semicolons {
-        text.extend_from_slice(b" ; id")?;
-    }
-    text.extend_from_slice(b" = id")?;
-    Ok(text)
-}
-
 #[test]
-fn a_statement_of_512_tokens_is_judged(rt: HostRuntime) -> Result<(), Fail> {
+fn parentheses_past_the_limit_are_refused(rt: HostRuntime) -> Result<(), Fail> {
     let alloc = rt.alloc();
-    for (semicolons, line) in [
-        (253, "1:1 rewrite n proved"),
-        (254, "1:1 rewrite n not-built"),
-    ] {
-        let mut sink = MemSink::new(alloc, 100, 100, Vec::new(alloc))?;
-        check(alloc, &long_rewrite(alloc, semicolons)?, 4096, &mut sink)?;
-        assert!(rt; sink.written().starts_with(line.as_bytes()), "{semicolons}");
+    let mut text = b"let x = ".to_vec(alloc)?;
+    for _ in 0..100_000 {
+        text.push(b'(')?;
     }
+    let mut sink = MemSink::new(alloc, 100, 100, Vec::new(alloc))?;
+    assert_eq!(rt; check(alloc, &text, 4096, &mut sink)?, Status::SomeNotGood);
+    assert_eq!(rt;
+        sink.written(),
+        b"1:1 let x syntax at 1:265\ntotal 1 good 0\n".as_slice()
+    );
     Ok(())
 }
 
@@ -244,6 +306,7 @@ fn hostile_texts_are_reported(rt: HostRuntime) -> Result<(), Fail> {
         (b"\xFF".as_slice(), 1_048_576, "total 1 good 0\n"),
         (b"rewrite ".as_slice(), 131_072, "total 131072 good 0\n"),
         (b"sw ; ".as_slice(), 209_715, "total 1 good 0\n"),
+        (b"(".as_slice(), 1_048_576, "total 1 good 0\n"),
         (b"a".as_slice(), 1_048_576, "total 1 good 0\n"),
         (
             b"rewrite n : sw = sw\n".as_slice(),

@@ -11,3 +11,5 @@ pub mod Drafting
 pub mod Leaves
 pub mod Steps
 pub mod Numbering
+pub mod Removing
+pub mod Dating

@@ -7,3 +7,5 @@ pub mod Graph
 pub mod PortTable
 pub mod Draft
 pub mod Joining
+pub mod Rounds
+pub mod Removal

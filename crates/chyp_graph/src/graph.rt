@@ -10,10 +10,13 @@ ghost use Rattle.chyp_graph.specs.Graph.{source_at, target_at};
 ghost use Rattle.chyp_graph.specs.GraphOf.{graph_of};
 ghost use Rattle.chyp_graph.specs.Joining.{number_behind};
 ghost use Rattle.chyp_graph.specs.PlainGraph.{PlainGraph, input_sorts, output_sorts};
+ghost use Rattle.chyp_graph.specs.Rounds.{AreRounds};
 ghost use Rattle.chyp_graph.specs.Validity.{IsValid};
 
+use crate::dates::rounds_in;
 use crate::draft::{Draft, add_wires};
 use crate::port_table::{Port, consumers, producers};
+use crate::removal::order_of;
 use crate::renumber::{copied_edges, copied_wires, push_edges, push_wires};
 use crate::{EdgeId, EdgePart, EdgeParts, EdgeView, WireId, WireIds};
 use chyp_base::{NoMemory, Sort, Sorts};
@@ -173,6 +176,21 @@ impl Graph {
             }
         }
         Ok(numbers)
+    }
+
+    /// The round of each edge, from 1: that in which it is taken away, where each round takes away the
+    /// edges all of whose sources are inputs or targets of edges taken away in earlier rounds. It
+    /// takes time and memory in proportion to the graph.
+    ///
+    /// # Errors
+    ///
+    /// `NoMemory` where the rounds can't be kept.
+    pub fn rounds(&self) -> Result<Vec<u32>, NoMemory>
+        ensures { IfOk result (λ rounds. AreRounds self.now rounds.items) }
+    {
+        let alloc = *self.wires.allocator();
+        let order = order_of(alloc, self)?;
+        rounds_in(alloc, self, &order)
     }
 
     /// The number of edges.

@@ -7,10 +7,12 @@
 //! are the graphs of a composite and of a tensor. The readers take constant time and no memory:
 //! [`Graph::edge`], [`Graph::wire_sort`], [`Graph::inputs`], [`Graph::outputs`], the counts, and
 //! [`Graph::producer`] and [`Graph::consumer`], which answer None exactly for an input and for an
-//! output. The definitions of validity, of the graph of a term and of isomorphism stand in `specs/`,
+//! output. [`Graph::rounds`] gives the round in which each edge is taken away, where each round takes
+//! away the edges whose sources are live by then, in time and memory in proportion to the graph. The definitions of validity, of the graph of a term and of isomorphism stand in `specs/`,
 //! and `proofs/` shows that the graph of a typed term is valid.
 #![tactic(auto)]
 
+mod dates;
 mod draft;
 mod edge_id;
 mod edge_ids;
@@ -19,6 +21,7 @@ mod edge_parts;
 mod edge_view;
 mod graph;
 mod port_table;
+mod removal;
 mod renumber;
 mod wire_id;
 mod wire_ids;

@@ -178,3 +178,19 @@ fn lists_make_a_graph(rt: HostRuntime) -> Result<(), Fail> {
     assert_eq!(rt; ids.into_vec().len(), 1);
     Ok(())
 }
+
+#[test]
+fn edges_have_their_rounds(rt: HostRuntime) -> Result<(), Fail> {
+    let alloc = rt.alloc();
+    let pair = both(alloc, through(alloc, "u")?, through(alloc, "u")?)?;
+    let merge = Term::Gen {
+        name: Name::new(alloc, "m")?,
+        dom: two(alloc)?,
+        cod: one(alloc)?,
+    };
+    let term = chain(alloc, pair, merge)?;
+    let graph = Graph::of_term(alloc, &term)?;
+    let rounds = graph.rounds()?;
+    assert_eq!(rt; rounds.as_slice(), [1, 1, 2].as_slice());
+    Ok(())
+}

@@ -6,3 +6,4 @@ pub mod Draws
 pub mod AlikeIsomorphic
 pub mod IsomorphicAlike
 pub mod Theorem
+pub mod Deciding

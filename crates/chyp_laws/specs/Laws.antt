@@ -1,5 +1,5 @@
 -- What graphs say of the monoidal laws, over all terms.
-use Rattle.std.specs.Prelude.{[]}
+use Rattle.std.specs.Prelude.{[], ◌⊎◌}
 use Rattle.chyp_term.specs.Morphism.{Morphism, IsTyped}
 use Rattle.chyp_term.specs.Derivation.{Derives}
 use Rattle.chyp_graph.specs.GraphOf.{graph_of}
@@ -17,3 +17,7 @@ IsomorphismsAreDerivations = (s t : Morphism) → IsTyped s → IsTyped t → Is
 -- the graph of a typed term is valid
 abbrev pub GraphsOfTermsAreValid : Type 0
 GraphsOfTermsAreValid = (t : Morphism) → IsTyped t → IsValid (graph_of t)
+
+-- of two typed terms the laws derive the equation, or they don't
+abbrev pub LawsAreDecided : Type 0
+LawsAreDecided = (s t : Morphism) → IsTyped s → IsTyped t → (Derives [] s t) ⊎ (¬ Derives [] s t)

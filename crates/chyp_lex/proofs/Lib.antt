@@ -5,3 +5,4 @@ pub mod TokenLists
 pub mod NameSteps
 pub mod NumberSteps
 pub mod LexemeSteps
+pub mod TextOfNames

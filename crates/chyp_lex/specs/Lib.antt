@@ -1,3 +1,4 @@
 pub mod Lexemes
 pub mod Longest
+pub mod Names
 pub mod Tokens

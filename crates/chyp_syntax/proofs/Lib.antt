@@ -9,11 +9,7 @@ pub mod OneTree
 pub mod Pieces
 pub mod Sentences
 pub mod Separated
-pub mod SmallIsWhole
-pub mod SmallLoops
-pub mod SmallNumbered
-pub mod SmallReading
-pub mod SmallRewriting
+pub mod Spans
 pub mod Splits
 pub mod Statements
 pub mod StepRuns

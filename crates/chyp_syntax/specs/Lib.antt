@@ -1,11 +1,10 @@
 pub mod Chunk
 pub mod Expected
 pub mod Failing
+pub mod Heading
 pub mod Numbered
 pub mod Reads
 pub mod Sentence
-pub mod SmallFront
-pub mod SmallSentence
 pub mod Statement
 pub mod Step
 pub mod Term

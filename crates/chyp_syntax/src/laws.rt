@@ -2,9 +2,6 @@
 ghost use Rattle.std.specs.Prelude.{List};
 ghost use Rattle.chyp_lex.specs.declared.token.Token.{Token};
 ghost use Rattle.chyp_syntax.specs.Failing.{ArePrefixesClosed, HasOneTree, IsSentenceOrFails};
-ghost use Rattle.chyp_syntax.specs.Sentence.{IsSentence};
-ghost use Rattle.chyp_syntax.specs.SmallSentence.{IsSmallSentence};
-ghost use Rattle.chyp_syntax.specs.Statement.{StatementTree};
 
 /// Each list of tokens has a tree, or fails at some place.
 pub fn each_chunk_is_a_sentence_or_fails()
@@ -20,9 +17,4 @@ pub fn each_beginning_of_a_prefix_is_one()
 /// No list of tokens has two trees.
 pub fn each_sentence_has_one_tree()
     ensures { (tokens : List Token) → HasOneTree tokens }
-{}
-
-/// A small sentence is a sentence, with the same tree.
-pub fn each_small_sentence_is_a_sentence()
-    ensures { (tokens : List Token) (tree : StatementTree) → IsSmallSentence tokens tree → IsSentence tokens tree }
 {}

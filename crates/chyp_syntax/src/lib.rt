@@ -8,18 +8,16 @@
 //! ([`each_sentence_has_one_tree`]), each chunk is a sentence or fails at such a place
 //! ([`each_chunk_is_a_sentence_or_fails`]), and what begins the beginning of a sentence begins a
 //! sentence ([`each_beginning_of_a_prefix_is_one`]). Trees hold no text: a name, an `=`, a `;` or a
-//! `sw` is named by its token's number within the chunk. [`parse_small`] reads rewrites of one step
-//! between terms of `id` and `sw` alone, which are sentences with the same trees
-//! ([`each_small_sentence_is_a_sentence`]). All take time in proportion to the tokens.
+//! `sw` is named by its token's number within the chunk. What a statement shows of itself without its
+//! tree, its keyword, its name and where its tokens begin, is told by [`kind_text`], [`shown_name`],
+//! [`declared_name`], [`token_start`] and [`text_at`]. All take time in proportion to the tokens.
 #![tactic(auto)]
 
 mod chunk;
 mod error;
+mod heading;
 mod laws;
 mod parser;
-mod small;
-mod small_error;
-mod small_front;
 mod statement;
 mod step;
 mod steps;
@@ -29,13 +27,12 @@ mod tokens;
 
 pub use chunk::{Chunk, chunks, each_text_has_one_list_of_chunks};
 pub use error::ParseError;
+pub use heading::{chunk_tokens, declared_name, kind_text, shown_name, text_at, token_start};
 pub use laws::{
     each_beginning_of_a_prefix_is_one, each_chunk_is_a_sentence_or_fails,
-    each_sentence_has_one_tree, each_small_sentence_is_a_sentence,
+    each_sentence_has_one_tree,
 };
 pub use parser::parse;
-pub use small::{each_chunk_has_one_small_tree_or_none, parse_small};
-pub use small_error::SmallParseError;
 pub use statement::Ast;
 pub use step::{ReasonAst, SignedAst, SignedAsts, StepAst, StepAsts};
 pub use term::{Numbers, Spots, TermAst, TermAsts};

@@ -1,5 +1,5 @@
 // Terms at a place.
-ghost use Rattle.std.specs.Prelude.{◌≡◌, ℕ, ◌+◌, ◌^◌, ◌<◌, ◌≤◌, length, map, IfOk, Err};
+ghost use Rattle.std.specs.Prelude.{◌≡◌, ℕ, ◌+◌, ◌^◌, ◌<◌, ◌≤◌, [], ◌∷◌, ◌++◌, length, map, IfOk, Err};
 ghost use Rattle.chyp_syntax.specs.Expected.{next, token, atom, tail, places_left, numbers_left, atoms_left, term_then};
 ghost use Rattle.chyp_syntax.specs.Numbered.{tokens_from, BeginsWithKind};
 ghost use Rattle.chyp_syntax.specs.Reads.{BeginsWith, Passes, Stops};
@@ -9,7 +9,7 @@ ghost use Rattle.chyp_syntax.specs.Term.{tree_of, tensor_of, chain_of};
 use crate::tokens::{expect, is_kind, number};
 use crate::{Numbers, ParseError, Spots, TermAst, TermAsts};
 use chyp_lex::{Token, TokenKind};
-use std::alloc::Global;
+use std::alloc::{AllocError, Global};
 
 /// The parentheses of a sentence's terms nest at most this deep.
 pub(crate) const MOST_NESTED: u32 = 256;
@@ -37,10 +37,10 @@ pub(crate) fn term(
     let mut at = start;
     loop {
         let (part, end) = par(alloc, tokens, at, depth)?;
-        parts.push(part)?;
         if !is_kind(tokens, end, TokenKind::Semicolon) {
-            return Ok((chain(parts, semis), end));
+            return Ok((chain(parts, semis, part)?, end));
         }
+        parts.push(part)?;
         semis.push(end as u32)?;
         at = end + 1;
     }
@@ -68,10 +68,10 @@ fn par(
     let mut at = start;
     loop {
         let (part, end) = atom(alloc, tokens, at, depth)?;
-        parts.push(part)?;
         if !is_kind(tokens, end, TokenKind::Star) {
-            return Ok((tensor(parts), end));
+            return Ok((tensor(parts, part)?, end));
         }
+        parts.push(part)?;
         at = end + 1;
     }
 }
@@ -177,24 +177,24 @@ fn numbers(alloc: Global, tokens: &[Token], start: usize) -> Result<(Numbers, us
     }
 }
 
-// One part is its own tensor.
-fn tensor(mut parts: TermAsts) -> TermAst
-    ensures { tree_of result ≡ tensor_of (map tree_of parts) }
+// The tensor of these parts and the last one, which is its own tensor where it is alone.
+fn tensor(mut parts: TermAsts, last: TermAst) -> Result<TermAst, AllocError>
+    ensures { IfOk result (λ found. tree_of found ≡ tensor_of (map tree_of parts ++ tree_of last ∷ [])) }
 {
-    if parts.len() == 1 {
-        parts.remove(0)
-    } else {
-        TermAst::Beside(parts)
+    if parts.is_empty() {
+        return Ok(last);
     }
+    parts.push(last)?;
+    Ok(TermAst::Beside(parts))
 }
 
-// One part is its own chain.
-fn chain(mut parts: TermAsts, semis: Spots) -> TermAst
-    ensures { tree_of result ≡ chain_of (map tree_of parts) semis }
+// The chain of these parts and the last one, which is its own chain where it is alone.
+fn chain(mut parts: TermAsts, semis: Spots, last: TermAst) -> Result<TermAst, AllocError>
+    ensures { IfOk result (λ found. tree_of found ≡ chain_of (map tree_of parts ++ tree_of last ∷ []) semis) }
 {
-    if parts.len() == 1 {
-        parts.remove(0)
-    } else {
-        TermAst::Chain { parts, semis }
+    if parts.is_empty() {
+        return Ok(last);
     }
+    parts.push(last)?;
+    Ok(TermAst::Chain { parts, semis })
 }

@@ -60,10 +60,7 @@ fn a_rewrite_of_wires_has_its_tree(rt: HostRuntime) -> Result<(), Fail> {
         [Swap { token: 3, places: None }, Swap { token: 5, places: None }] }, \
         semis: Items { items: [4] } }, steps: Items { items: [StepAst { equals: 6, \
         goal: Some(Beside(Items { items: [Wire, Wire] })), reason: Plain }] } }";
-    let tokens = tokens_of(rt.alloc(), &kinds)?;
-    let ast = parse_small(rt.alloc(), &tokens)?;
-    assert_eq!(rt; format!(in rt.alloc(); "{ast:?}")?.as_str(), tree);
-    each_chunk_has_one_small_tree_or_none();
+    assert_eq!(rt; told(rt.alloc(), &kinds)?.as_str(), tree);
     Ok(())
 }
 
@@ -155,7 +152,6 @@ fn a_chunk_fails_at_its_place(rt: HostRuntime) -> Result<(), Fail> {
     each_chunk_is_a_sentence_or_fails();
     each_beginning_of_a_prefix_is_one();
     each_sentence_has_one_tree();
-    each_small_sentence_is_a_sentence();
     Ok(())
 }
 

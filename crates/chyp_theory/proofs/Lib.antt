@@ -1,3 +1,4 @@
+pub mod Deciding
 pub mod Running
 pub mod Congruence
 pub mod Soundness

@@ -1,5 +1,6 @@
 -- What the monoidal laws prove of terms of wires.
-use Rattle.std.specs.Prelude.{◌≡◌, List, [], length, ◌↔◌}
+use Rattle.std.specs.Prelude.{ℕ, ◌≡◌, ◌⊎◌, List, [], length, ◌↔◌}
+use Rattle.chyp_base.specs.declared.sort.Sort.{Sort}
 use Rattle.chyp_term.specs.Perm.{IsPermutation, permuted}
 use Rattle.chyp_term.specs.Morphism.{Morphism, permutation, dom, cod, IsTyped}
 use Rattle.chyp_term.specs.Wiring.{IsWires, wiring_of}
@@ -24,3 +25,15 @@ WiringDecidesWires = (s t : Morphism) → IsWires s → IsWires t → IsTyped s 
 -- what any equations derive is an equation: both terms are typed, and have one type
 abbrev pub DerivationsAreEquations : Type 0
 DerivationsAreEquations = (E : List (Morphism × Morphism)) (s t : Morphism) → Derives E s t → IsEquation s t
+
+-- each term has a type, or it has none
+abbrev pub TypingIsDecided : Type 0
+TypingIsDecided = (t : Morphism) → (IsTyped t) ⊎ (¬ IsTyped t)
+
+-- two lists of sorts are the same, or they are not
+abbrev pub SortsAreDecided : Type 0
+SortsAreDecided = (a b : List Sort) → (a ≡ b) ⊎ (¬ (a ≡ b))
+
+-- a list of numbers is a permutation, or it is none
+abbrev pub PermutationsAreDecided : Type 0
+PermutationsAreDecided = (n : ℕ) (p : List ℕ) → (IsPermutation n p) ⊎ (¬ IsPermutation n p)

@@ -2,7 +2,7 @@
 //! bodies are empty.
 //!
 //! `derivations_are_equations` says that terms which any equations derive are typed and have one
-//! type. `wires_are_permutations` says, over all typed terms without generators, that each is a
+//! type. `types_are_decided` says that a term has a type or has none. `wires_are_permutations` says, over all typed terms without generators, that each is a
 //! permutation of its domain and equals it by the laws, and that two are equal by the laws exactly
 //! where their domains and permutations are; `wires_are_decided` says so for two given terms.
 //! `proofs/` has more, for the crates above: terms are equal by the laws exactly where they run
@@ -12,13 +12,21 @@
 ghost use Rattle.chyp_term.specs.Morphism.{IsTyped};
 ghost use Rattle.chyp_term.specs.Term.{morphism_of};
 ghost use Rattle.chyp_term.specs.Wiring.{IsWires};
-ghost use Rattle.chyp_theory.specs.Laws.{DerivationsAreEquations, IsDecidedByWiring, WiresArePermutations, WiringDecidesWires, WiringsPermute};
+ghost use Rattle.chyp_theory.specs.Laws.{DerivationsAreEquations, IsDecidedByWiring, PermutationsAreDecided, SortsAreDecided, TypingIsDecided, WiresArePermutations, WiringDecidesWires, WiringsPermute};
 
 use chyp_term::Term;
 
 /// Terms that are derived, from any equations, are typed and have one type.
 pub fn derivations_are_equations()
     ensures { DerivationsAreEquations }
+{}
+
+/// A term has a type or it has none, two lists of sorts are the same or they are not, and a list of
+/// numbers is a permutation or it is none.
+pub fn types_are_decided()
+    ensures typing { TypingIsDecided }
+    ensures sorts { SortsAreDecided }
+    ensures permutations { PermutationsAreDecided }
 {}
 
 /// Over all typed terms of wires: each is a permutation of its domain and equals it by the laws,
@@ -52,6 +60,7 @@ mod tests {
     fn laws_are_called_for_two_terms(rt: HostRuntime) -> Result<(), Fail> {
         let alloc = rt.alloc();
         derivations_are_equations();
+        types_are_decided();
         wires_are_permutations();
         let left = Perm::new(Places::from_vec(Vec::new(alloc)));
         let right = Perm::new(Places::from_vec(Vec::new(alloc)));

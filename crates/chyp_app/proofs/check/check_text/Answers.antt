@@ -1,7 +1,7 @@
 use Rattle.std.proofs.Common.{List, ℕ, length, ap, subst, arith, append-nil}
 use Rattle.chyp_lex.specs.Tokens.{AreTokens}
 use Rattle.chyp_app.specs.Output.{checked}
-use Rattle.chyp_app.proofs.SpanLemmas.{spans_few}
+use Rattle.chyp_syntax.proofs.Spans.{spans_few}
 use Rattle.chyp_app.proofs.CheckLemmas.{on_err, counts_nothing, text_spans}
 use Rattle.chyp_app.proofs.check.check_text.Goals as goal
 
@@ -28,7 +28,7 @@ returns-clause-checks g c =
     record {
       output = _;
       is_output = checked c.requires tokens chunks verdicts;
-      reports = rw (c.deref-4.ensures.value, c.deref-5.ensures.value, c.deref-6.ensures.value) at c.in_ok-report.ensures;
-      ends = rw c.deref-7.ensures.value at c.status_of-status.ensures;
+      reports = rw (c.deref-4.ensures.value, c.deref-5.ensures.value, c.as_slice.ensures) at c.in_ok-report.ensures;
+      ends = rw c.as_slice-2.ensures at c.status_of-status.ensures;
       counts = rw c.deref-3.ensures.value at c.in_ok-verdicts.ensures.steps;
     }

@@ -2,11 +2,7 @@ use Rattle.chyp_app.proofs.OutputLemmas.{one_output, counted_output}
 use Rattle.chyp_app.proofs.check.each_text_has_one_output.Goals as goal
 
 pub returns-clause-one : goal.returns-clause-one
-returns-clause-one c =
-    one_output c.every_text_has_one_token_list.ensures c.each_text_has_one_list_of_chunks.ensures c.each_chunk_has_one_small_tree_or_none.ensures
-    c.derivations_are_equations.ensures c.wires_are_permutations.ensures.decided
+returns-clause-one c = one_output c.every_text_has_one_token_list.ensures c.each_text_has_one_list_of_chunks.ensures c.each_text_has_one_list_of_verdicts.ensures
 
 pub returns-clause-counts : goal.returns-clause-counts
-returns-clause-counts c =
-    counted_output c.every_text_has_one_token_list.ensures c.each_text_has_one_list_of_chunks.ensures c.each_chunk_has_one_small_tree_or_none.ensures
-    c.derivations_are_equations.ensures c.wires_are_permutations.ensures.decided
+returns-clause-counts c = counted_output c.every_text_has_one_token_list.ensures c.each_text_has_one_list_of_chunks.ensures c.each_text_has_one_list_of_verdicts.ensures

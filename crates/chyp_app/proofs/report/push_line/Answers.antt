@@ -1,5 +1,5 @@
 use Rattle.std.proofs.Common.{length, arith}
-use Rattle.chyp_app.proofs.SpanLemmas.{starts_after_first, starts_within}
+use Rattle.chyp_syntax.proofs.Spans.{starts_after_first, starts_within}
 use Rattle.chyp_app.proofs.report.push_line.Goals as goal
 
 pub moved_on-at-requires-clause-order : goal.moved_on-at-requires-clause-order

@@ -1,8 +1,8 @@
 use Rattle.std.proofs.Common.{◌<◌, ◌+◌, ◌++◌, length, drop, refl, rules, arith, ap, ◌∙◌}
 use Rattle.std.proofs.lemmas.Option.{slice_get_read}
-use Rattle.chyp_app.specs.Statement.{token_start}
+use Rattle.chyp_syntax.specs.Heading.{token_start}
 use Rattle.chyp_app.specs.Report.{line_of, lines_of}
-use Rattle.chyp_app.proofs.SpanLemmas.{here, is_here, statement_spans, starts_within, statements_in_order, tile_within}
+use Rattle.chyp_syntax.proofs.Spans.{here, is_here, statement_spans, starts_within, statements_in_order, tile_within}
 use Rattle.chyp_app.proofs.ReportLemmas.{lines-turn}
 use Rattle.chyp_app.proofs.report.push_lines.Goals as goal
 
@@ -39,9 +39,10 @@ loop-index-preserved c =
     record {
       written =
           ap (λ r. r ++ lines_of c.args.text.now c.args.tokens.now (drop (i + 1) chunks) (drop (i + 1) c.args.verdicts.now))
-          (c.in_ok-push_line.ensures ∙ ap (λ s. c.loop-index.report.items ++ line_of c.args.text.now s c.index-verdicts-index.result) c.chunk_tokens-statement.ensures)
-          ∙ lines-turn c.args.text.now c.args.tokens.now i (here chunks i) c.index-verdicts-index.result chunks c.args.verdicts.now c.loop-index.report.items chunk verdict
+          (c.in_ok-push_line.ensures.line ∙ ap (λ s. c.loop-index.page.bytes ++ line_of c.args.text.now s c.index-verdicts-index.result) c.chunk_tokens-statement.ensures)
+          ∙ lines-turn c.args.text.now c.args.tokens.now i (here chunks i) c.index-verdicts-index.result chunks c.args.verdicts.now c.loop-index.page.bytes chunk verdict
           ∙ c.loop-index.invariant.written;
+      faultless = search rules;
       reached = search rules;
       ahead = λ k other le e.
           let order = statements_in_order (length c.args.text.now) i k (here chunks i) other c.args.tokens.now chunks c.requires.spans c.requires.chunks (omega arith) chunk e in

@@ -184,10 +184,9 @@ par-returns-then-not-is_kind-clause-read t c =
     let part = c.in_ok-part.part in
     let tree : TermTree = tree_of part in
     let end = c.in_ok-part.end in
-    let trees : map tree_of c.push.new.self ≡ map tree_of parts ++ tree ∷ [] = ap (map tree_of) c.in_ok-push.ensures.ok ∙ map_push tree_of parts part in
     let last = so_far_last (IsAtom depth) (λ xs ts _. AreAtoms depth xs ts) Star (λ _. []) (atoms_one depth) (atoms_more depth)
     tokens c.args.start c.loop-parts.at end (map tree_of parts) [] tree c.loop-parts.invariant.so_far c.in_ok-part.ensures.read in
-    rw (c.tensor.ensures, trees) (is_tensor depth (tokens_from tokens c.args.start) (tokens_from tokens end) (map tree_of parts ++ tree ∷ []) last)
+    rw c.in_ok-tensor.ensures (is_tensor depth (tokens_from tokens c.args.start) (tokens_from tokens end) (map tree_of parts ++ tree ∷ []) last)
 
 pub par-returns-then-not-is_kind-clause-passes : goal.par-returns-then-not-is_kind-clause-passes
 par-returns-then-not-is_kind-clause-passes t c =
@@ -227,10 +226,9 @@ term-returns-then-not-is_kind-clause-read t c =
     let part = c.in_ok-part.part in
     let tree : TermTree = tree_of part in
     let end = c.in_ok-part.end in
-    let trees : map tree_of c.push.new.self ≡ map tree_of parts ++ tree ∷ [] = ap (map tree_of) c.in_ok-push.ensures.ok ∙ map_push tree_of parts part in
     let last = so_far_last (IsPar depth) (ArePars depth) Semicolon (λ n. n ∷ []) (pars_one depth) (pars_more depth)
     tokens c.args.start c.loop-semis.at end (map tree_of parts) c.loop-semis.semis tree c.loop-semis.invariant.so_far c.in_ok-part.ensures.read in
-    rw (c.chain.ensures, trees) (is_chain depth (tokens_from tokens c.args.start) (tokens_from tokens end) (map tree_of parts ++ tree ∷ []) c.loop-semis.semis last)
+    rw c.in_ok-chain.ensures (is_chain depth (tokens_from tokens c.args.start) (tokens_from tokens end) (map tree_of parts ++ tree ∷ []) c.loop-semis.semis last)
 
 pub term-returns-then-not-is_kind-clause-passes : goal.term-returns-then-not-is_kind-clause-passes
 term-returns-then-not-is_kind-clause-passes t c =

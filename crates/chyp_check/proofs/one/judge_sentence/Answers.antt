@@ -1,0 +1,32 @@
+use Rattle.std.proofs.Common.{arith, sym, ap, subst, sum_by, None, Err}
+use Rattle.std.proofs.lemmas.List.{length-map}
+use Rattle.chyp_term.specs.Measure.{size_of}
+use Rattle.chyp_term.specs.Term.{morphism_of, morphisms_of}
+use Rattle.chyp_names.specs.Binding.{IsOutcome}
+use Rattle.chyp_check.specs.Judged.{IsJudged, refused}
+use Rattle.chyp_check.proofs.Outcomes.{judged_sentence, passing_outcome, refused_outcome, terms_few}
+use Rattle.chyp_check.proofs.one.judge_sentence.Goals as goal
+
+pub returns-in-Err-Refused-clause-judged : goal.returns-in-Err-Refused-clause-judged
+returns-in-Err-Refused-clause-judged c =
+    let is = c.in-Err-Refused.ensures.refused c.in-Err-Refused.verdict (ap Err c.in-Err-Refused.field-0-is) in
+    subst (IsJudged _) (sym c.in-Err-Refused.verdict-is) (refused c.requires.sentence is)
+
+pub returns-in-Err-Refused-clause-outcome : goal.returns-in-Err-Refused-clause-outcome
+returns-in-Err-Refused-clause-outcome c =
+    let is = c.in-Err-Refused.ensures.refused c.in-Err-Refused.verdict (ap Err c.in-Err-Refused.field-0-is) in
+    subst (IsOutcome _ None) (sym c.in-Err-Refused.verdict-is) (refused_outcome _ _ c.in-Err-Refused.verdict is)
+
+pub returns-clause-judged : goal.returns-clause-judged
+returns-clause-judged c = judged_sentence _ _ c.in-Ok.body c.in_ok-verdict.verdict c.requires.sentence c.in-Ok.ensures.passes c.in-Ok.ensures.body c.in_ok-verdict.ensures
+
+pub returns-clause-outcome : goal.returns-clause-outcome
+returns-clause-outcome c = passing_outcome _ _ c.in-Ok.body c.in_ok-verdict.verdict c.requires.sentence c.in-Ok.ensures.passes c.in-Ok.ensures.body c.in_ok-verdict.ensures
+
+pub verdict_of-requires-clause-few : goal.verdict_of-requires-clause-few
+verdict_of-requires-clause-few c =
+    let few = terms_few (morphisms_of c.in-Ok.body.terms) in
+    let same = ap (sum_by size_of) c.in-Ok.ensures.body.terms in
+    let together = c.in-Ok.ensures.passes.small.together in
+    let count = length-map c.in-Ok.body.terms morphism_of in
+    omega arith

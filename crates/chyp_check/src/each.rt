@@ -1,0 +1,85 @@
+// The verdicts of all statements of a text.
+ghost use Rattle.std.specs.Prelude.{◌≡◌, ◌≤◌, ◌+◌, [], length, IfOk, OnOk, OnErr};
+ghost use Rattle.chyp_lex.specs.Names.{NamesAreText};
+ghost use Rattle.chyp_lex.specs.Tokens.{AreSpans};
+ghost use Rattle.chyp_syntax.specs.Chunk.{AreChunks};
+ghost use Rattle.chyp_names.specs.Binding.{Binds};
+ghost use Rattle.chyp_names.specs.ChunkView.{IsLent, site_of};
+ghost use Rattle.chyp_check.specs.Judged.{IsJudged};
+ghost use Rattle.chyp_check.specs.Verdicts.{AreVerdicts};
+
+use crate::one::judge_statement;
+use crate::{Inputs, Verdicts};
+use chyp_base::{Name, NoMemory, Steps, Verdict};
+use chyp_lex::Token;
+use chyp_names::{ChunkView, Env, bind};
+use chyp_syntax::{Chunk, chunk_tokens};
+use std::alloc::Global;
+use std::sync::ledger::Ledger;
+
+// The verdict of a statement, whose name is then bound.
+fn judge_and_bind(
+    alloc: Global,
+    home: &Name,
+    chunk: &ChunkView<'_>,
+    index: u32,
+    env: &mut Env,
+) -> Result<Verdict, NoMemory>
+    requires { IsLent chunk.now }
+    ensures judged { IfOk result (λ verdict. IsJudged (site_of home.now chunk.now env.old) verdict) }
+    ensures binds { IfOk result (λ verdict. Binds (site_of home.now chunk.now env.old) index verdict env.new) }
+{
+    let inputs = Inputs {
+        module: home,
+        chunk: *chunk,
+        env,
+    };
+    let outcome = judge_statement(alloc, &inputs)?;
+    bind(
+        env,
+        home,
+        index,
+        chunk,
+        outcome.body.as_ref(),
+        &outcome.verdict,
+    )?;
+    Ok(outcome.verdict)
+}
+
+/// The verdicts of the statements of a text from the left, at one step each. Each name is bound once its
+/// statement has its verdict.
+///
+/// # Errors
+///
+/// `NoMemory` may come at any point; then no more steps were counted than there are statements.
+pub fn check_each<G: Ledger>(
+    alloc: Global,
+    text: &[u8],
+    tokens: &[Token],
+    chunks: &[Chunk],
+    steps: &mut Steps<G>,
+) -> Result<Verdicts, NoMemory>
+    requires short { length text.now ≤ 1048576 }
+    requires spans { AreSpans (length text.now) tokens.now }
+    requires names { NamesAreText text.now tokens.now }
+    requires chunks { AreChunks tokens.now chunks.now }
+    ensures verdicts { IfOk result (λ verdicts. AreVerdicts text.now tokens.now chunks.now verdicts) }
+    ensures count { IfOk result (λ verdicts. length verdicts ≡ length chunks.now) }
+    ensures steps { OnOk result (steps.new ≡ steps.old + length chunks.now) }
+    ensures rises { steps.old ≤ steps.new }
+    ensures no_more { OnErr result (steps.new ≤ steps.old + length chunks.now) }
+{
+    let home = Name::new(alloc, "")?;
+    let mut env = Env::new(alloc);
+    let mut verdicts = Vec::with_capacity(alloc, chunks.len())?;
+    for (index, chunk) in chunks.iter().enumerate() {
+        steps.tick();
+        let view = ChunkView {
+            tokens: chunk_tokens(tokens, *chunk),
+            first: text,
+            second: &[],
+        };
+        verdicts.push(judge_and_bind(alloc, &home, &view, index as u32, &mut env)?)?;
+    }
+    Ok(Verdicts::from_vec(verdicts))
+}

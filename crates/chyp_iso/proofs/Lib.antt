@@ -1,0 +1,12 @@
+pub mod PairLists
+pub mod Tables
+pub mod Ports
+pub mod Followed
+pub mod Steps
+pub mod Ups
+pub mod Lists
+pub mod Switch
+pub mod Exchange
+pub mod Searching
+pub mod Finishing
+pub mod Ends

@@ -1,0 +1,193 @@
+// Pairs that follow from others.
+ghost use Rattle.std.specs.Prelude.{◌≡◌, ◌<◌, [], ◌∷◌, All, IfSome, length, slice_get, true};
+ghost use Rattle.std.specs.Bool.{MatchBool};
+ghost use Rattle.chyp_iso.specs.Pair.{AreAlike, wire_pairs};
+ghost use Rattle.chyp_iso.specs.Pairs.{Has, IsMatching, Pairs};
+ghost use Rattle.chyp_iso.specs.Port.{at_one_place, port_pairs, the_sources, the_targets};
+ghost use Rattle.chyp_iso.specs.Following.{AreFollowed, Fits, Includes, IsComplete, IsFollowed, IsFollowedUp, Leads, Refutes};
+ghost use Rattle.chyp_iso.specs.declared.pair.Pair.TheVariants.{Edges, Wires};
+
+use crate::pair::Pair;
+use crate::pairing::Pairing;
+use chyp_graph::{EdgeId, EdgeView, Graph, WireId};
+
+/// Whether the wires have one sort.
+fn same_sort(a: &Graph, b: &Graph, v: WireId, w: WireId) -> bool
+    requires there { v < length a.now.wires }
+    requires within { w < length b.now.wires }
+    ensures { MatchBool result (slice_get b.now.wires w ≡ slice_get a.now.wires v) (slice_get b.now.wires w ≡ slice_get a.now.wires v → ⊥) }
+{
+    *a.wire_sort(v) == *b.wire_sort(w)
+}
+
+/// Pairs two wires, unless one of them is in another pair or they differ in their sorts; whether it
+/// could.
+pub(crate) fn pair_wires(pairing: &mut Pairing, a: &Graph, b: &Graph, v: WireId, w: WireId) -> bool
+    requires fits { Fits a.now b.now pairing.old }
+    requires there { v < length a.now.wires }
+    requires within { w < length b.now.wires }
+    ensures leads { Leads a.now b.now (Wires v w ∷ []) pairing.old pairing.new }
+    ensures outcome { MatchBool result (Has pairing.new.pairs (Wires v w)) (Refutes a.now b.now (Wires v w ∷ []) pairing.old.pairs) }
+{
+    if let Some(image) = pairing.wire(v) {
+        return image == w;
+    }
+    if pairing.wire_back(w).is_some() {
+        return false;
+    }
+    if !same_sort(a, b, v, w) {
+        return false;
+    }
+    pairing.add_wires(v, w);
+    true
+}
+
+/// Whether the edges have one name and as many ports.
+fn alike(first: EdgeView, second: EdgeView) -> bool
+    ensures { MatchBool result
+        (AreAlike (record { name = first.entry.name.now; sources = first.entry.sources.now; targets = first.entry.targets.now }) (record { name = second.entry.name.now; sources = second.entry.sources.now; targets = second.entry.targets.now }))
+        (AreAlike (record { name = first.entry.name.now; sources = first.entry.sources.now; targets = first.entry.targets.now }) (record { name = second.entry.name.now; sources = second.entry.sources.now; targets = second.entry.targets.now }) → ⊥) }
+{
+    *first.name == *second.name
+        && first.sources.len() == second.sources.len()
+        && first.targets.len() == second.targets.len()
+}
+
+/// Pairs two edges, unless one of them is in another pair or they differ in their names or in the
+/// number of their ports; whether it could.
+pub(crate) fn pair_edges(pairing: &mut Pairing, a: &Graph, b: &Graph, e: EdgeId, f: EdgeId) -> bool
+    requires fits { Fits a.now b.now pairing.old }
+    requires there { e < length a.now.edges }
+    requires within { f < length b.now.edges }
+    ensures leads { Leads a.now b.now (Edges e f ∷ []) pairing.old pairing.new }
+    ensures outcome { MatchBool result (Has pairing.new.pairs (Edges e f)) (Refutes a.now b.now (Edges e f ∷ []) pairing.old.pairs) }
+{
+    if let Some(image) = pairing.edge(e) {
+        return image == f;
+    }
+    if pairing.edge_back(f).is_some() {
+        return false;
+    }
+    if !alike(a.edge(e), b.edge(f)) {
+        return false;
+    }
+    pairing.add_edges(e, f);
+    true
+}
+
+/// Pairs two lists of wires, place by place; whether it could.
+pub(crate) fn pair_lists(
+    pairing: &mut Pairing,
+    a: &Graph,
+    b: &Graph,
+    vs: &[WireId],
+    ws: &[WireId],
+) -> bool
+    requires fits { Fits a.now b.now pairing.old }
+    requires same { length vs.now ≡ length ws.now }
+    requires there { All (λ v. v < length a.now.wires) vs.now }
+    requires within { All (λ w. w < length b.now.wires) ws.now }
+    ensures leads { Leads a.now b.now (wire_pairs vs.now ws.now) pairing.old pairing.new }
+    ensures outcome { MatchBool result (Includes (wire_pairs vs.now ws.now) pairing.new.pairs) (Refutes a.now b.now (wire_pairs vs.now ws.now) pairing.old.pairs) }
+{
+    for (i, v) in vs.iter().enumerate() {
+        if !pair_wires(pairing, a, b, *v, ws[i]) {
+            return false;
+        }
+    }
+    true
+}
+
+/// Pairs the edges of two ports, which have to be at one place or both absent; whether it could.
+fn pair_ports(
+    pairing: &mut Pairing,
+    a: &Graph,
+    b: &Graph,
+    first: Option<(EdgeId, u32)>,
+    second: Option<(EdgeId, u32)>,
+) -> bool
+    requires fits { Fits a.now b.now pairing.old }
+    requires there { IfSome first (λ port. port.0 < length a.now.edges) }
+    requires within { IfSome second (λ port. port.0 < length b.now.edges) }
+    ensures leads { Leads a.now b.now (port_pairs first second) pairing.old pairing.new }
+    ensures outcome { MatchBool result
+        ((at_one_place first second ≡ true) × Includes (port_pairs first second) pairing.new.pairs)
+        (at_one_place first second ≡ true → Refutes a.now b.now (port_pairs first second) pairing.old.pairs) }
+{
+    let Some((e, i)) = first else {
+        return second.is_none();
+    };
+    let Some((f, j)) = second else {
+        return false;
+    };
+    i == j && pair_edges(pairing, a, b, e, f)
+}
+
+/// Pairs the edges that make two paired wires; whether it could.
+fn follow_producers(pairing: &mut Pairing, a: &Graph, b: &Graph, v: WireId, w: WireId) -> bool
+    requires fits { Fits a.now b.now pairing.old }
+    requires paired { Has pairing.old.pairs (Wires v w) }
+    ensures leads { Leads a.now b.now [] pairing.old pairing.new }
+    ensures outcome { MatchBool result (IsFollowedUp a.now b.now pairing.new.pairs the_targets v w) (Refutes a.now b.now [] pairing.old.pairs) }
+{
+    let first = a.producer(v);
+    let second = b.producer(w);
+    pair_ports(pairing, a, b, first, second)
+}
+
+/// Pairs the edges that consume two paired wires; whether it could.
+fn follow_consumers(pairing: &mut Pairing, a: &Graph, b: &Graph, v: WireId, w: WireId) -> bool
+    requires fits { Fits a.now b.now pairing.old }
+    requires paired { Has pairing.old.pairs (Wires v w) }
+    ensures leads { Leads a.now b.now [] pairing.old pairing.new }
+    ensures outcome { MatchBool result (IsFollowedUp a.now b.now pairing.new.pairs the_sources v w) (Refutes a.now b.now [] pairing.old.pairs) }
+{
+    let first = a.consumer(v);
+    let second = b.consumer(w);
+    pair_ports(pairing, a, b, first, second)
+}
+
+/// Pairs the wires of two paired edges; whether it could.
+fn follow_ports(pairing: &mut Pairing, a: &Graph, b: &Graph, e: EdgeId, f: EdgeId) -> bool
+    requires fits { Fits a.now b.now pairing.old }
+    requires paired { Has pairing.old.pairs (Edges e f) }
+    ensures leads { Leads a.now b.now [] pairing.old pairing.new }
+    ensures outcome { MatchBool result (IsFollowed a.now b.now pairing.new.pairs (Edges e f)) (Refutes a.now b.now [] pairing.old.pairs) }
+{
+    let first = a.edge(e);
+    let second = b.edge(f);
+    pair_lists(pairing, a, b, first.sources, second.sources)
+        && pair_lists(pairing, a, b, first.targets, second.targets)
+}
+
+/// Pairs all that the pair at a place touches; whether it could.
+fn follow_pair(pairing: &mut Pairing, a: &Graph, b: &Graph, at: usize) -> bool
+    requires fits { Fits a.now b.now pairing.old }
+    requires there { at < length pairing.old.pairs }
+    ensures leads { Leads a.now b.now [] pairing.old pairing.new }
+    ensures outcome { MatchBool result ((p : _) → slice_get pairing.old.pairs at ≡ Some p → IsFollowed a.now b.now pairing.new.pairs p) (Refutes a.now b.now [] pairing.old.pairs) }
+{
+    match pairing.pair(at) {
+        Pair::Wires(v, w) => {
+            follow_producers(pairing, a, b, v, w) && follow_consumers(pairing, a, b, v, w)
+        }
+        Pair::Edges(e, f) => follow_ports(pairing, a, b, e, f),
+    }
+}
+
+/// Pairs all that hangs on the pairs, of which those before a place are followed; whether it could.
+pub(crate) fn follow_all(pairing: &mut Pairing, a: &Graph, b: &Graph, from: usize) -> bool
+    requires fits { Fits a.now b.now pairing.old }
+    requires followed { AreFollowed a.now b.now pairing.old.pairs from }
+    ensures leads { Leads a.now b.now [] pairing.old pairing.new }
+    ensures outcome { MatchBool result (IsComplete a.now b.now pairing.new.pairs × IsMatching pairing.new.pairs) (Refutes a.now b.now [] pairing.old.pairs) }
+{
+    let mut next = from;
+    while next < pairing.len() {
+        if !follow_pair(pairing, a, b, next) {
+            return false;
+        }
+        next += 1;
+    }
+    true
+}

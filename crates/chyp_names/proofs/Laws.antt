@@ -1,0 +1,107 @@
+-- Names that are in order, and proved, stand for laws.
+use Rattle.std.proofs.Common.{◌≡◌, ℕ, false, List, [], ◌∷◌, ◌++◌, map, flat_map, slice_get, All, Option, None, Some, refl, sym, ap, subst, ◌∙◌, true≢false, is_some, IsTrue}
+use Rattle.std.specs.List.{filter_map, cons_option}
+use Rattle.std.specs.Option.{option_map_or}
+use Rattle.std.proofs.lemmas.List.Elements.{All-nil, All-cons, All-head, All-tail, filter_map-append}
+use Rattle.chyp_syntax.specs.declared.step.ReasonAst.{ReasonAst}
+use Rattle.chyp_syntax.specs.declared.step.ReasonAst.TheVariants.{Simp}
+use Rattle.chyp_syntax.specs.declared.step.SignedAst.{SignedAst}
+use Rattle.chyp_syntax.specs.declared.step.StepAst.{StepAst}
+use Rattle.chyp_syntax.specs.declared.statement.Ast.{Ast}
+use Rattle.chyp_syntax.specs.declared.statement.Ast.TheVariants.{RewriteDecl}
+use Rattle.chyp_syntax.specs.declared.term.TermAst.{TermAst}
+use Rattle.chyp_syntax.specs.Statement.{statement_of}
+use Rattle.chyp_syntax.specs.Step.{step_of}
+use Rattle.chyp_syntax.specs.Term.{tree_of}
+use Rattle.chyp_names.specs.Elaboration.{reason_at}
+use Rattle.chyp_names.specs.Environment.{Sense, generator, abbreviation, law, unproved, broken, Binding}
+use Rattle.chyp_names.specs.Laws.{is_law, IsLawAt, RestsOnLaws}
+use Rattle.chyp_names.specs.Naming.{Use, in_reason, names_of_reason, uses_in, uses_in_goal, uses_in_step, fault_of, fault_in_reason, fault_or_unknown, unproved_use, unproved_token, first_fault, first_unproved}
+use Rattle.chyp_names.specs.Site.{Site, binding_at}
+use Rattle.chyp_names.proofs.Firsts.{nil_left, nil_right, none_first}
+use Rattle.chyp_names.proofs.Uses.{unproved_of_rewrite, unproved_in_step, step_uses}
+
+-- the rules of a `by` are laws
+pub simp_laws : (site : Site) (reason : ReasonAst) (rules items : List SignedAst) → reason ≡ Simp rules → items ≡ rules → RestsOnLaws site reason
+    → All (λ (rule : SignedAst). IsLawAt site rule.name) items
+simp_laws site reason rules items is same laws =
+    subst (λ (xs : List SignedAst). All (λ (rule : SignedAst). IsLawAt site rule.name) xs) (sym same) (go rules (subst (RestsOnLaws site) is laws))
+  where
+    go : (rules : List SignedAst) → All (IsLawAt site) (map (λ rule. rule.name) rules) → All (λ (rule : SignedAst). IsLawAt site rule.name) rules
+    go [] h = All-nil (λ (rule : SignedAst). IsLawAt site rule.name)
+    go (rule ∷ rules) h =
+        All-cons (λ (rule : SignedAst). IsLawAt site rule.name) rule rules (All-head (IsLawAt site) rule.name (map (λ rule. rule.name) rules) h)
+        (go rules (All-tail (IsLawAt site) rule.name (map (λ rule. rule.name) rules) h))
+
+-- the reasons of steps and of their trees
+pub reasons_of_steps : (site : Site) (steps : List StepAst) → map (λ (step : StepAst). reason_at site step.reason) steps ≡ map (λ step. reason_at site step.reason) (map step_of steps)
+reasons_of_steps site [] = refl
+reasons_of_steps site (step ∷ steps) = ap (λ rs. reason_at site step.reason ∷ rs) (reasons_of_steps site steps)
+
+unproved_sense : (b : Binding) (token : ℕ) → b.sense ≡ unproved → unproved_token (Some b) token ≡ Some token
+unproved_sense b token e = rw e refl
+
+law_sense : (sense : Sense) (b : Binding) (token : ℕ) → b.sense ≡ sense → fault_in_reason sense token ≡ None → unproved_token (Some b) token ≡ None → IsTrue (is_law sense)
+law_sense (law first last) b token e f u = refl
+law_sense unproved b token e f u = absurd (true≢false (ap is_some (sym (unproved_sense b token e) ∙ u)))
+law_sense broken b token e f u = absurd (true≢false (ap is_some f))
+law_sense (generator name dom cod) b token e f u = absurd (true≢false (ap is_some f))
+law_sense (abbreviation m) b token e f u = absurd (true≢false (ap is_some f))
+
+-- a name behind a `by` that is in order and proved is a law
+law_there : (site : Site) (token : ℕ) → fault_of site (in_reason token) ≡ None → unproved_use site (in_reason token) ≡ None → IsLawAt site token
+law_there site token = go (binding_at site token)
+  where
+    go : (o : Option Binding) → fault_or_unknown fault_in_reason o token ≡ None → unproved_token o token ≡ None → IsTrue (option_map_or (λ binding. is_law binding.sense) o false)
+    go None f u = absurd (true≢false (ap is_some f))
+    go (Some b) f u = law_sense b.sense b token refl f u
+
+module _ {U V : Type 0} (f : U → Option V) (u : U) (us : List U) where
+  nothing_first : filter_map f (u ∷ us) ≡ [] → f u ≡ None
+  nothing_first = go (f u)
+    where
+      go : (o : Option V) → cons_option o (filter_map f us) ≡ [] → o ≡ None
+      go None e = refl
+      go (Some v) e = absurd (true≢false (ap (λ vs. is_some (slice_get vs 0)) e))
+
+  nothing_behind : filter_map f (u ∷ us) ≡ [] → filter_map f us ≡ []
+  nothing_behind = go (f u)
+    where
+      go : (o : Option V) → cons_option o (filter_map f us) ≡ [] → filter_map f us ≡ []
+      go None e = e
+      go (Some v) e = absurd (true≢false (ap (λ vs. is_some (slice_get vs 0)) e))
+
+laws_there : (site : Site) (names : List ℕ) → filter_map (fault_of site) (map in_reason names) ≡ [] → filter_map (unproved_use site) (map in_reason names) ≡ []
+    → All (IsLawAt site) names
+laws_there site [] f u = All-nil (IsLawAt site)
+laws_there site (name ∷ names) f u =
+    All-cons (IsLawAt site) name names (law_there site name (nothing_first (fault_of site) (in_reason name) (map in_reason names) f) (nothing_first (unproved_use site) (in_reason name) (map in_reason names) u))
+    (laws_there site names (nothing_behind (fault_of site) (in_reason name) (map in_reason names) f) (nothing_behind (unproved_use site) (in_reason name) (map in_reason names) u))
+
+laws_in_steps : (site : Site) (steps : List StepAst) → filter_map (fault_of site) (flat_map uses_in_step (map step_of steps)) ≡ []
+    → filter_map (unproved_use site) (flat_map uses_in_step (map step_of steps)) ≡ [] → All (λ (step : StepAst). RestsOnLaws site step.reason) steps
+laws_in_steps site [] f u = All-nil (λ (step : StepAst). RestsOnLaws site step.reason)
+laws_in_steps site (step ∷ steps) f u =
+    let rest : List Use = flat_map uses_in_step (map step_of steps) in
+    let f2 = sym (filter_map-append (fault_of site) (step_uses step) rest) ∙ f in
+    let u2 = sym (filter_map-append (unproved_use site) (step_uses step) rest) ∙ u in
+    let f1 = nil_left (filter_map (fault_of site) (step_uses step)) (filter_map (fault_of site) rest) f2 in
+    let u1 = nil_left (filter_map (unproved_use site) (step_uses step)) (filter_map (unproved_use site) rest) u2 in
+    let by : List Use = map in_reason (names_of_reason step.reason) in
+    let goal_uses : List Use = uses_in_goal (step_of step).goal in
+    let f0 = nil_right (filter_map (fault_of site) goal_uses) (filter_map (fault_of site) by) (sym (filter_map-append (fault_of site) goal_uses by) ∙ f1) in
+    let u0 = sym (unproved_in_step site (step_of step)) ∙ u1 in
+    All-cons (λ (step : StepAst). RestsOnLaws site step.reason) step steps (laws_there site (names_of_reason step.reason) f0 u0)
+    (laws_in_steps site steps (nil_right (filter_map (fault_of site) (step_uses step)) (filter_map (fault_of site) rest) f2)
+    (nil_right (filter_map (unproved_use site) (step_uses step)) (filter_map (unproved_use site) rest) u2))
+
+-- the steps of a rewrite whose names are in order and proved rest on laws
+pub rewrite_laws : (site : Site) (ast : Ast) (name : ℕ) (first : TermAst) (steps items : List StepAst) → ast ≡ RewriteDecl name first steps → items ≡ steps
+    → first_fault site (statement_of ast) ≡ None → first_unproved site (statement_of ast) ≡ None → All (λ (step : StepAst). RestsOnLaws site step.reason) items
+rewrite_laws site ast name first steps items is same f u =
+    let tail : List Use = flat_map uses_in_step (map step_of steps) in
+    let f1 : filter_map (fault_of site) (uses_in (tree_of first) ++ tail) ≡ [] = none_first _ (ap is_some (ap (λ a. first_fault site (statement_of a)) (sym is) ∙ f)) in
+    let u1 : filter_map (unproved_use site) (uses_in (tree_of first) ++ tail) ≡ [] = none_first _ (ap is_some (ap (λ a. first_unproved site (statement_of a)) (sym is) ∙ u)) in
+    let f2 = nil_right (filter_map (fault_of site) (uses_in (tree_of first))) (filter_map (fault_of site) tail) (sym (filter_map-append (fault_of site) (uses_in (tree_of first)) tail) ∙ f1) in
+    let u2 = sym (unproved_of_rewrite site (tree_of first) tail) ∙ u1 in
+    subst (λ (xs : List StepAst). All (λ (step : StepAst). RestsOnLaws site step.reason) xs) (sym same) (laws_in_steps site steps f2 u2)

@@ -1,0 +1,164 @@
+-- The names and the terms that a statement makes.
+use Rattle.std.proofs.Common.{◌≡◌, ℕ, ◌+◌, ◌<◌, List, [], ◌∷◌, ◌++◌, map, length, take, slice_index_or, All, Option, None, Some, refl, sym, ap, subst, ◌∙◌, Bool, true, false, ◌&&◌, true≢false, is_some, unwrap_or, cond, ◌==◌, append_assoc}
+use Rattle.std.specs.Str.{IsUtf8}
+use Rattle.std.proofs.lemmas.List.Elements.{All-nil, All-cons, All-head, All-tail}
+use Rattle.chyp_lex.specs.declared.token.Token.{Token}
+use Rattle.chyp_lex.specs.declared.token.TokenKind.{TokenKind}
+use Rattle.chyp_lex.specs.declared.token.TokenKind.TheVariants.{Ident, WordGen, WordLet, WordRule, WordRewrite, WordImport, WordShow}
+use Rattle.chyp_lex.specs.Tokens.{token_text}
+use Rattle.chyp_syntax.specs.declared.statement.Ast.{Ast}
+use Rattle.chyp_syntax.specs.declared.statement.Ast.TheVariants.{GenDecl, RuleDecl, RewriteDecl}
+use Rattle.chyp_syntax.specs.declared.step.StepAst.{StepAst}
+use Rattle.chyp_syntax.specs.declared.term.TermAst.{TermAst}
+use Rattle.chyp_syntax.specs.Heading.{declares, is_identifier, declared_name, text_at}
+use Rattle.chyp_syntax.specs.Numbered.{NumberedToken, kind_of}
+use Rattle.chyp_syntax.specs.Sentence.{IsStatement, IsSentence, is_gen, is_let, is_rule, is_rewrite, is_import, is_import_as, is_show}
+use Rattle.chyp_syntax.specs.Statement.{StatementTree, generator, definition, rule, rewrite, inclusion, showing, statement_of}
+use Rattle.chyp_syntax.specs.Step.{step_of}
+use Rattle.chyp_syntax.specs.Term.{tree_of}
+use Rattle.chyp_term.specs.Morphism.{Morphism}
+use Rattle.chyp_names.specs.declared.chunk_view.ChunkView.{ChunkView}
+use Rattle.chyp_names.specs.ChunkView.{IsLent}
+use Rattle.chyp_names.specs.Elaboration.{expansion_at, tests_at, generator_name}
+use Rattle.chyp_names.specs.Goals.{GoalHolds, goal_terms}
+use Rattle.chyp_names.specs.Site.{Site, meaning_at}
+use Rattle.chyp_names.specs.Typing.{Test, agrees, AllHold, tests_of, tests_of_other, tests_of_steps}
+use Rattle.chyp_names.proofs.Goals.{take_more, goal_terms-append}
+use Rattle.chyp_names.proofs.Holding.{hold-front, hold-behind}
+
+-- the keyword of a statement
+abbrev pub keyword_for : StatementTree → TokenKind
+keyword_for (generator name dom cod) = WordGen
+keyword_for (definition name tree) = WordLet
+keyword_for (rule name left equals right) = WordRule
+keyword_for (rewrite name first steps) = WordRewrite
+keyword_for (inclusion imported prefix) = WordImport
+keyword_for (showing name) = WordShow
+
+-- how a sentence begins: with its keyword, and at a generator with its name
+abbrev BeginsAs : StatementTree → List NumberedToken → Type 0
+BeginsAs tree [] = ⊥
+BeginsAs (generator name dom cod) (word ∷ []) = ⊥
+BeginsAs (generator name dom cod) (word ∷ second ∷ rest) = (kind_of word ≡ WordGen) × (second.0 ≡ name) × (kind_of second ≡ Ident)
+BeginsAs tree (word ∷ rest) = kind_of word ≡ keyword_for tree
+
+begins_as : {tokens : List NumberedToken} {tree : StatementTree} → IsStatement tokens tree → BeginsAs tree tokens
+begins_as (is_gen w n c d a e) = (w, refl, n)
+begins_as (is_let w n e t) = w
+begins_as (is_rule equals w n c l e r) = w
+begins_as (is_rewrite w n c t s) = w
+begins_as (is_import w n) = w
+begins_as (is_import_as w n a p) = w
+begins_as (is_show w n) = w
+
+-- the keyword of a sentence
+pub sentence_keyword : (first : Token) (rest : List Token) (tree : StatementTree) → IsSentence (first ∷ rest) tree → first.kind ≡ keyword_for tree
+sentence_keyword first [] (generator name dom cod) s = absurd (begins_as s.statement)
+sentence_keyword first (second ∷ rest) (generator name dom cod) s = (begins_as s.statement).0
+sentence_keyword first rest (definition name tree) s = begins_as s.statement
+sentence_keyword first rest (rule name left equals right) s = begins_as s.statement
+sentence_keyword first rest (rewrite name start steps) s = begins_as s.statement
+sentence_keyword first rest (inclusion imported prefix) s = begins_as s.statement
+sentence_keyword first rest (showing name) s = begins_as s.statement
+
+-- the name of a generator is UTF-8
+generator_spelled : (text : List ℕ) (tokens : List Token) (name dom cod : ℕ) → All (λ (token : Token). token.kind ≡ Ident → IsUtf8 (token_text text token)) tokens
+    → IsSentence tokens (generator name dom cod) → IsUtf8 (text_at text tokens name)
+generator_spelled text [] name dom cod spelled s = absurd (begins_as s.statement)
+generator_spelled text (first ∷ []) name dom cod spelled s = absurd (begins_as s.statement)
+generator_spelled text (first ∷ second ∷ rest) name dom cod spelled s =
+    let begins = begins_as s.statement in
+    let P : Token → Type 0 = λ token. token.kind ≡ Ident → IsUtf8 (token_text text token) in
+    subst (λ n. IsUtf8 (text_at text (first ∷ second ∷ rest) n)) begins.1 (All-head P second rest (All-tail P first (second ∷ rest) spelled) begins.2)
+
+pub name_spelled : (chunk : ChunkView) (ast : Ast) (name dom cod : ℕ) → IsLent chunk → ast ≡ GenDecl name dom cod → IsSentence chunk.tokens.now (statement_of ast)
+    → IsUtf8 (text_at chunk.first.now chunk.tokens.now name)
+name_spelled chunk ast name dom cod lent is s =
+    generator_spelled chunk.first.now chunk.tokens.now name dom cod lent.spelled (subst (λ a. IsSentence chunk.tokens.now (statement_of a)) is s)
+
+-- a declared name is UTF-8
+both_true : (a b : Bool) → a && b ≡ true → b ≡ true
+both_true true b e = e
+both_true false b e = absurd (true≢false (sym e))
+
+identifier_kind : (kind : TokenKind) → is_identifier kind ≡ true → kind ≡ Ident
+identifier_kind Ident e = refl
+identifier_kind _ e = absurd (true≢false (sym e))
+
+pub declared_spelled : (chunk : ChunkView) (name : List ℕ) → IsLent chunk → declared_name chunk.first.now chunk.tokens.now ≡ Some name → IsUtf8 name
+declared_spelled chunk name lent = go chunk.tokens.now lent.spelled
+  where
+    P : Token → Type 0
+    P token = token.kind ≡ Ident → IsUtf8 (token_text chunk.first.now token)
+
+    tell : (b : Bool) (token : Token) → P token → (b ≡ true → token.kind ≡ Ident) → (cond b (Some (token_text chunk.first.now token)) None) ≡ Some name → IsUtf8 name
+    tell true token spelled kind e = subst IsUtf8 (ap (λ o. unwrap_or o []) e) (spelled (kind refl))
+    tell false token spelled kind e = absurd (true≢false (sym (ap is_some e)))
+
+    go : (tokens : List Token) → All P tokens → declared_name chunk.first.now tokens ≡ Some name → IsUtf8 name
+    go [] spelled e = absurd (true≢false (sym (ap is_some e)))
+    go (first ∷ []) spelled e = absurd (true≢false (sym (ap is_some e)))
+    go (first ∷ second ∷ rest) spelled e =
+        tell (declares first.kind && is_identifier second.kind) second (All-head P second rest (All-tail P first (second ∷ rest) spelled))
+        (λ t. identifier_kind second.kind (both_true (declares first.kind) (is_identifier second.kind) t)) e
+
+-- the goals of steps whose tests hold
+goals_hold : (site : Site) (first : Morphism) (steps : List StepAst) → AllHold (tests_of_steps (meaning_at site) first (map step_of steps)) → All (GoalHolds site) steps
+goals_hold site first [] h = All-nil (GoalHolds site)
+goals_hold site first (step ∷ steps) h = go step.goal refl (goals_hold site first steps)
+  where
+    behind : List Test
+    behind = tests_of_steps (meaning_at site) first (map step_of steps)
+
+    none : step.goal ≡ None → tests_of_steps (meaning_at site) first (map step_of (step ∷ steps)) ≡ behind
+    none e = rw e refl
+
+    some : (tree : TermAst) → step.goal ≡ Some tree
+        → tests_of_steps (meaning_at site) first (map step_of (step ∷ steps)) ≡ tests_of_other (meaning_at site) first step.equals (tree_of tree) ++ behind
+    some tree e = rw e refl
+
+    go : (o : Option TermAst) → step.goal ≡ o → (AllHold behind → All (GoalHolds site) steps) → All (GoalHolds site) (step ∷ steps)
+    go None e rest = All-cons (GoalHolds site) step steps (rw e tt) (rest (subst AllHold (none e) h))
+    go (Some tree) e rest =
+        let both = subst AllHold (some tree e) h in
+        let goal = hold-front (tests_of_other (meaning_at site) first step.equals (tree_of tree)) behind both in
+        All-cons (GoalHolds site) step steps
+        (rw e (hold-front (tests_of (meaning_at site) (tree_of tree)) ((step.equals, agrees first (expansion_at site (tree_of tree))) ∷ []) goal))
+        (rest (hold-behind (tests_of_other (meaning_at site) first step.equals (tree_of tree)) behind both))
+
+-- the tests of a rewrite
+pub first_holds : (site : Site) (ast : Ast) (name : ℕ) (first : TermAst) (steps : List StepAst) → ast ≡ RewriteDecl name first steps → AllHold (tests_at site (statement_of ast))
+    → AllHold (tests_of (meaning_at site) (tree_of first))
+first_holds site ast name first steps is h =
+    hold-front (tests_of (meaning_at site) (tree_of first)) (tests_of_steps (meaning_at site) (expansion_at site (tree_of first)) (map step_of steps)) (subst (λ a. AllHold (tests_at site (statement_of a))) is h)
+
+pub steps_hold : (site : Site) (ast : Ast) (name : ℕ) (first : TermAst) (steps items : List StepAst) → ast ≡ RewriteDecl name first steps → items ≡ steps
+    → AllHold (tests_at site (statement_of ast)) → All (GoalHolds site) items
+steps_hold site ast name first steps items is same h =
+    subst (All (GoalHolds site)) (sym same) (goals_hold site (expansion_at site (tree_of first)) steps
+    (hold-behind (tests_of (meaning_at site) (tree_of first)) (tests_of_steps (meaning_at site) (expansion_at site (tree_of first)) (map step_of steps)) (subst (λ a. AllHold (tests_at site (statement_of a))) is h)))
+
+-- the tests of a rule
+module _ (site : Site) (ast : Ast) (name : ℕ) (left : TermAst) (equals : ℕ) (right : TermAst) (is : ast ≡ RuleDecl name left equals right) (h : AllHold (tests_at site (statement_of ast))) where
+  abbrev other : List Test
+  other = tests_of_other (meaning_at site) (expansion_at site (tree_of left)) equals (tree_of right)
+
+  pub left_holds : AllHold (tests_of (meaning_at site) (tree_of left))
+  left_holds = hold-front (tests_of (meaning_at site) (tree_of left)) other (subst (λ a. AllHold (tests_at site (statement_of a))) is h)
+
+  pub right_holds : AllHold (tests_of (meaning_at site) (tree_of right))
+  right_holds =
+      hold-front (tests_of (meaning_at site) (tree_of right)) ((equals, agrees (expansion_at site (tree_of left)) (expansion_at site (tree_of right))) ∷ [])
+      (hold-behind (tests_of (meaning_at site) (tree_of left)) other (subst (λ a. AllHold (tests_at site (statement_of a))) is h))
+
+-- the terms of a list that grows by the goal of a step
+pub goals_more : (site : Site) (first : Morphism) (terms all : List Morphism) (steps : List StepAst) (k : ℕ) (step : StepAst) → k < length steps → step ≡ slice_index_or steps k step
+    → terms ≡ first ∷ goal_terms site (take k steps) → all ≡ terms ++ goal_terms site (step ∷ []) → all ≡ first ∷ goal_terms site (take (k + 1) steps)
+goals_more site first terms all steps k step within is so_far next =
+    next ∙ ap (λ ts. ts ++ goal_terms site (step ∷ [])) so_far
+    ∙ ap (λ ts. first ∷ ts) (sym (goal_terms-append site (take k steps) (step ∷ [])) ∙ ap (goal_terms site) (sym (take_more steps k step within is)))
+
+-- the name of a generator in a module
+pub in_module : (home name : List ℕ) → false ≡ (length home == 0) → home ++ 47 ∷ name ≡ generator_name home name
+in_module [] name e = absurd (true≢false (sym e))
+in_module (b ∷ home) name e = sym (append_assoc (b ∷ home) (47 ∷ []) name)

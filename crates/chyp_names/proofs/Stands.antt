@@ -1,0 +1,192 @@
+-- What a statement stands for, by its keyword and its terms.
+use Rattle.std.proofs.Common.{◌≡◌, ℕ, zero, suc, ◌-◌, ◌<◌, ◌≤◌, List, [], ◌∷◌, ◌++◌, length, get_or, slice_get, Option, None, Some, IfSome, IfNone, refl, sym, ap, subst, ◌∙◌, Bool, true, false, ◌&&◌, true≢false, is_some, cond, arith, All, Bor}
+use Rattle.std.proofs.lemmas.List.Elements.{All-nil}
+use Rattle.std.proofs.lemmas.List.{length-replicate}
+use Rattle.chyp_base.specs.declared.verdict.Verdict.{Verdict}
+use Rattle.chyp_base.specs.declared.verdict.Verdict.TheVariants.{Accepted, Proved}
+use Rattle.chyp_base.specs.Sort.{plain}
+use Rattle.chyp_lex.specs.declared.token.Token.{Token}
+use Rattle.chyp_lex.specs.declared.token.TokenKind.{TokenKind}
+use Rattle.chyp_lex.specs.declared.token.TokenKind.TheVariants.{WordGen, WordRewrite}
+use Rattle.chyp_lex.specs.Tokens.{token_text}
+use Rattle.chyp_syntax.specs.Heading.{declares, is_identifier, declared_name}
+use Rattle.chyp_syntax.specs.Sentence.{IsSentence}
+use Rattle.chyp_syntax.specs.Statement.{StatementTree, generator as a_gen, definition, rule, rewrite, inclusion, showing}
+use Rattle.chyp_term.specs.Derivation.{empty, IsEquation}
+use Rattle.chyp_term.specs.Morphism.{Morphism}
+use Rattle.chyp_term.specs.Term.{morphisms_of}
+use Rattle.chyp_names.specs.declared.body.Body.{Body}
+use Rattle.chyp_names.specs.Binding.{Binds, anew, IsRewrite, StandsFor, a_declared_generator, a_term, a_rule, a_proved_rewrite, an_unproved_rewrite, a_broken_statement, Elaborates, IsOutcome}
+use Rattle.chyp_names.specs.Elaboration.{terms_of, Passes}
+use Rattle.chyp_names.specs.Environment.{Sense, Binding, binding_of, is_bound}
+use Rattle.chyp_names.specs.declared.entry.Entry.{Entry}
+use Rattle.chyp_names.specs.Entry.{entry_of}
+use Rattle.chyp_names.specs.Expansion.{plain_wires}
+use Rattle.chyp_names.specs.Limits.{most_ports}
+use Rattle.chyp_names.specs.Outcome.{keyword_in, terms_in, refused_sense, sense_for, HasTermsFor}
+use Rattle.chyp_names.specs.Site.{Site}
+use Rattle.chyp_names.specs.Sound.{IsSoundSense, AreTypedAlike}
+use Rattle.chyp_names.proofs.Made.{keyword_for, sentence_keyword}
+
+-- with these terms, the statement stands for the sense of its keyword, which is sound
+pub record IsFit (site : Site) (verdict : Verdict) (keyword : Option TokenKind) (terms : List Morphism) : Type 0 where
+  pub has : HasTermsFor keyword terms verdict
+  pub stands : StandsFor site verdict (sense_for keyword terms verdict)
+  pub sound : AreTypedAlike terms → IsSoundSense (sense_for keyword terms verdict)
+
+get-there : (xs : List Morphism) (i : ℕ) (d : Morphism) → i < length xs → slice_get xs i ≡ Some (get_or xs i d)
+get-there [] i d within = absurd (omega arith)
+get-there (x ∷ xs) zero d within = refl
+get-there (x ∷ xs) (suc i) d within = get-there xs i d (omega arith)
+
+abbrev is_gen_word : Option TokenKind → Bool
+is_gen_word (Some WordGen) = true
+is_gen_word _ = false
+
+few : (n : ℕ) → n ≤ most_ports → length (plain_wires n) ≤ most_ports
+few n h = subst (λ k. k ≤ most_ports) (sym (length-replicate n plain)) h
+
+accepted_fit : (site : Site) (tree : StatementTree) → declares (keyword_for tree) ≡ true → (keyword_for tree ≡ WordRewrite → ⊥) → IsSentence site.tokens tree → Passes site tree
+    → IsFit site Accepted (Some (keyword_for tree)) (terms_of site tree)
+accepted_fit site (a_gen name dom cod) declares other s p = record {
+  has = (omega arith, λ _. tt);
+  stands = a_declared_generator s refl;
+  sound = λ alike. (few dom p.small.ports.0, few cod p.small.ports.1);
+}
+accepted_fit site (definition name tree) declares other s p = record {
+  has = (omega arith, λ e. absurd (true≢false (sym (ap is_gen_word e))));
+  stands = a_term s refl;
+  sound = λ alike. ((alike 0 empty (omega arith) 0 empty (omega arith)).left, p.small.each 0 empty (omega arith));
+}
+accepted_fit site (rule name left equals right) declares other s p = record {
+  has = (omega arith, λ e. absurd (true≢false (sym (ap is_gen_word e))));
+  stands = a_rule s refl;
+  sound = λ alike. (alike 0 empty (omega arith) 1 empty (omega arith), p.small.each 0 empty (omega arith), p.small.each 1 empty (omega arith));
+}
+accepted_fit site (rewrite name first steps) declares other s p = absurd (other refl)
+accepted_fit site (inclusion imported prefix) declares other s p = absurd (true≢false (sym declares))
+accepted_fit site (showing name) declares other s p = absurd (true≢false (sym declares))
+
+abbrev is_rewrite_word : TokenKind → Bool
+is_rewrite_word WordRewrite = true
+is_rewrite_word _ = false
+
+proved_fit : (site : Site) (tree : StatementTree) → keyword_for tree ≡ WordRewrite → IsSentence site.tokens tree → Passes site tree
+    → IsFit site Proved (Some (keyword_for tree)) (terms_of site tree)
+proved_fit site (rewrite name first steps) k s p =
+    let terms : List Morphism = terms_of site (rewrite name first steps) in
+    let last : length terms - 1 < length terms = omega arith in
+    let some : 0 < length terms = omega arith in
+    record {
+      has = some;
+      stands = a_proved_rewrite s refl (get-there terms (length terms - 1) empty last);
+      sound = λ alike. (alike 0 empty some (length terms - 1) empty last, p.small.each 0 empty some, p.small.each (length terms - 1) empty last);
+    }
+proved_fit site (a_gen name dom cod) k s p = absurd (true≢false (sym (ap is_rewrite_word k)))
+proved_fit site (definition name tree) k s p = absurd (true≢false (sym (ap is_rewrite_word k)))
+proved_fit site (rule name left equals right) k s p = absurd (true≢false (sym (ap is_rewrite_word k)))
+proved_fit site (inclusion imported prefix) k s p = absurd (true≢false (sym (ap is_rewrite_word k)))
+proved_fit site (showing name) k s p = absurd (true≢false (sym (ap is_rewrite_word k)))
+
+-- what a statement stands for that is neither accepted nor proved
+refused_stands : (home text : List ℕ) (env : List Binding) (first : Token) (rest : List Token) (verdict : Verdict) → (verdict ≡ Accepted → ⊥) → (verdict ≡ Proved → ⊥)
+    → StandsFor (record { home = home; text = text; env = env; tokens = first ∷ rest }) verdict (refused_sense (Some first.kind))
+refused_stands home text env first rest verdict accepted proved = go first.kind refl
+  where
+    go : (kind : TokenKind) → first.kind ≡ kind → StandsFor (record { home = home; text = text; env = env; tokens = first ∷ rest }) verdict (refused_sense (Some kind))
+    go WordRewrite e = an_unproved_rewrite e proved
+    go _ e = a_broken_statement (λ r. true≢false (sym (ap is_rewrite_word r) ∙ ap is_rewrite_word e)) accepted
+
+both_first : (a b : Bool) → a && b ≡ true → a ≡ true
+both_first true b e = refl
+both_first false b e = absurd (true≢false (sym e))
+
+-- a statement that declares a name begins with a keyword that does
+abbrev Declares : List Token → Type 0
+Declares [] = ⊥
+Declares (first ∷ rest) = declares first.kind ≡ true
+
+declares_there : (text : List ℕ) (tokens : List Token) (name : List ℕ) → declared_name text tokens ≡ Some name → Declares tokens
+declares_there text [] name e = absurd (true≢false (sym (ap is_some e)))
+declares_there text (first ∷ []) name e = absurd (true≢false (sym (ap is_some e)))
+declares_there text (first ∷ second ∷ rest) name e = both_first (declares first.kind) (is_identifier second.kind) (tell (declares first.kind && is_identifier second.kind) e)
+  where
+    tell : (b : Bool) → cond b (Some (token_text text second)) None ≡ Some name → b ≡ true
+    tell true e = refl
+    tell false e = absurd (true≢false (sym (ap is_some e)))
+
+module _ (home text : List ℕ) (env : List Binding) where
+  abbrev site_at : List Token → Site
+  site_at tokens = record { home = home; text = text; env = env; tokens = tokens }
+
+  accepted_body : (tokens : List Token) (body : Body) → Declares tokens → ¬ IsRewrite tokens → Elaborates (site_at tokens) body
+      → IsFit (site_at tokens) Accepted (keyword_in tokens) (morphisms_of body.terms)
+  accepted_body [] body d other e = absurd d
+  accepted_body (first ∷ rest) body d other e =
+      let kind = sentence_keyword first rest e.tree e.is_sentence in
+      subst (IsFit (site_at (first ∷ rest)) Accepted (keyword_in (first ∷ rest))) (sym e.is_body.terms)
+      (subst (λ k. IsFit (site_at (first ∷ rest)) Accepted (Some k) (terms_of (site_at (first ∷ rest)) e.tree)) (sym kind)
+      (accepted_fit (site_at (first ∷ rest)) e.tree (ap declares (sym kind) ∙ d) (λ r. other (kind ∙ r)) e.is_sentence e.passes))
+
+  proved_body : (tokens : List Token) (body : Body) → IsRewrite tokens → Elaborates (site_at tokens) body → IsFit (site_at tokens) Proved (keyword_in tokens) (morphisms_of body.terms)
+  proved_body [] body r e = absurd r
+  proved_body (first ∷ rest) body r e =
+      let kind = sentence_keyword first rest e.tree e.is_sentence in
+      subst (IsFit (site_at (first ∷ rest)) Proved (keyword_in (first ∷ rest))) (sym e.is_body.terms)
+      (subst (λ k. IsFit (site_at (first ∷ rest)) Proved (Some k) (terms_of (site_at (first ∷ rest)) e.tree)) (sym kind)
+      (proved_fit (site_at (first ∷ rest)) e.tree (sym kind ∙ r) e.is_sentence e.passes))
+
+  refused_fit : (tokens : List Token) (verdict : Verdict) → Declares tokens → (verdict ≡ Accepted → ⊥) → (verdict ≡ Proved → ⊥) → StandsFor (site_at tokens) verdict (refused_sense (keyword_in tokens))
+  refused_fit [] verdict d accepted proved = absurd d
+  refused_fit (first ∷ rest) verdict d accepted proved = refused_stands home text env first rest verdict accepted proved
+
+  abbrev is_accepted : Verdict → Bool
+  is_accepted Accepted = true
+  is_accepted _ = false
+
+  abbrev is_proved : Verdict → Bool
+  is_proved Proved = true
+  is_proved _ = false
+
+  refused_sound : (keyword : Option TokenKind) → IsSoundSense (refused_sense keyword)
+  refused_sound None = tt
+  refused_sound (Some WordRewrite) = tt
+  refused_sound (Some _) = tt
+
+  -- the outcome of a statement that declares a name says what it stands for
+  pub outcome_fit : (tokens : List Token) (body : Option Body) (verdict : Verdict) (name : List ℕ) → IsOutcome (site_at tokens) body verdict → declared_name text tokens ≡ Some name
+      → IsFit (site_at tokens) verdict (keyword_in tokens) (morphisms_of (terms_in body))
+  outcome_fit tokens None Accepted name o declared = absurd (true≢false (sym (o.accepted refl).0))
+  outcome_fit tokens (Some body) Accepted name o declared = accepted_body tokens body (declares_there text tokens name declared) (o.accepted refl).1 o.elaborates
+  outcome_fit tokens None Proved name o declared = absurd (true≢false (sym (o.proved refl).0))
+  outcome_fit tokens (Some body) Proved name o declared = proved_body tokens body (o.proved refl).1 o.elaborates
+  outcome_fit tokens body verdict name o declared = record {
+    has = tt;
+    stands = refused_fit tokens verdict (declares_there text tokens name declared) (λ e. true≢false (sym (ap is_accepted e))) (λ e. true≢false (sym (ap is_proved e)));
+    sound = λ alike. refused_sound (keyword_in tokens);
+  }
+
+-- the terms of a body that are typed alike, where there is a body
+pub terms_alike : (body : Option Body) → IfSome body (λ b. AreTypedAlike (morphisms_of b.terms)) → AreTypedAlike (morphisms_of (terms_in body))
+terms_alike None h = All-nil (λ s. All (λ t. IsEquation s t) [])
+terms_alike (Some body) h = h
+
+-- a name that a look-up finds is bound
+pub found_bound : (env : List Binding) (name : List ℕ) (result : Option (Bor Entry)) → IfSome result (λ entry. binding_of env name ≡ Some (entry_of entry.now)) → is_some result ≡ true
+    → is_bound env name ≡ true
+found_bound env name (Some entry) h some = ap is_some h
+found_bound env name None h some = absurd (true≢false (sym some))
+
+-- and one that it doesn't find is free
+pub unfound_free : (env : List Binding) (name : List ℕ) (result : Option (Bor Entry)) → IfNone result (binding_of env name ≡ None) → is_some result ≡ false → is_bound env name ≡ false
+unfound_free env name (Some entry) h none = absurd (true≢false none)
+unfound_free env name None h none = ap is_some h
+
+-- the binding of a statement
+pub binds_anew : (site : Site) (number : ℕ) (verdict : Verdict) (name spelled home : List ℕ) (sense stands : Sense) (new : List Binding) → declared_name site.text site.tokens ≡ Some name
+    → is_bound site.env name ≡ false → StandsFor site verdict stands → spelled ≡ name → home ≡ site.home → sense ≡ stands
+    → new ≡ site.env ++ record { name = spelled; origin = (home, number); sense = sense } ∷ [] → Binds site number verdict new
+binds_anew site number verdict name spelled home sense stands new declared fresh h n m s is =
+    let same : new ≡ site.env ++ record { name = name; origin = (site.home, number); sense = stands } ∷ [] =
+    is ∙ (λ i. site.env ++ record { name = n i; origin = (m i, number); sense = s i } ∷ []) in
+    subst (Binds site number verdict) (sym same) (anew declared fresh h)

@@ -1,0 +1,107 @@
+-- The terms and steps of a statement, and what refuses it: the first of these points that holds.
+use Rattle.std.specs.Prelude.{◌≡◌, ℕ, Bool, true, false, IsTrue, List, [], ◌∷◌, ◌++◌, map, None, Some, option_map, is_none, codes, if◌then◌else◌}
+use Rattle.std.specs.List.{filter_map, list_any}
+use Rattle.std.specs.Option.{option_map_or}
+use Rattle.chyp_base.specs.declared.verdict.Verdict.{Verdict}
+use Rattle.chyp_base.specs.declared.verdict.Verdict.TheVariants.{Declared, NotBuilt, TooBig, Mistyped, Unproved}
+use Rattle.chyp_syntax.specs.declared.step.ReasonAst.{ReasonAst}
+use Rattle.chyp_syntax.specs.declared.step.ReasonAst.TheVariants.{Plain, Rule, Simp}
+use Rattle.chyp_syntax.specs.declared.step.SignedAst.{SignedAst}
+use Rattle.chyp_syntax.specs.Heading.{text_at}
+use Rattle.chyp_syntax.specs.Statement.{StatementTree, generator, definition, rule, rewrite, inclusion, showing}
+use Rattle.chyp_syntax.specs.Term.{TermTree}
+use Rattle.chyp_term.specs.Derivation.{empty}
+use Rattle.chyp_term.specs.Morphism.{Morphism, generator as a_generator}
+use Rattle.chyp_term.specs.Step.{Reason, by_laws, by_rule, by_simp, reasons_of}
+use Rattle.chyp_term.specs.Term.{morphisms_of}
+use Rattle.chyp_names.specs.declared.body.Body.{Body}
+use Rattle.chyp_names.specs.Environment.{Sense, law}
+use Rattle.chyp_names.specs.Expansion.{expansion_in, plain_wires}
+use Rattle.chyp_names.specs.Limits.{AreWithinLimits}
+use Rattle.chyp_names.specs.Naming.{first_fault, first_unproved}
+use Rattle.chyp_names.specs.Site.{Site, binding_at, is_declared, meaning_at}
+use Rattle.chyp_names.specs.Typing.{Test, AllHold, FailsFirst, tests_of_statement}
+
+-- the name of a generator in terms: its identifier in the main text, and `MODULE/IDENTIFIER` in a module
+abbrev pub generator_name : List ℕ → List ℕ → List ℕ
+generator_name [] name = name
+generator_name home name = home ++ codes "/" ++ name
+
+-- the term of a tree where the statement stands
+abbrev pub expansion_at : Site → TermTree → Morphism
+expansion_at site tree = expansion_in (meaning_at site) tree
+
+-- the terms of a statement, in the order of the text; that of a `gen` is the generator
+abbrev pub terms_of : Site → StatementTree → List Morphism
+terms_of site (generator name dom cod) = a_generator (generator_name site.home (text_at site.text site.tokens name)) (plain_wires dom) (plain_wires cod) ∷ []
+terms_of site (definition name tree) = expansion_at site tree ∷ []
+terms_of site (rule name left equals right) = expansion_at site left ∷ expansion_at site right ∷ []
+terms_of site (rewrite name first steps) = expansion_at site first ∷ filter_map (λ step. option_map (expansion_at site) step.goal) steps
+terms_of site (inclusion imported prefix) = []
+terms_of site (showing name) = []
+
+-- the equation of a law
+abbrev pub equation_of_sense : Sense → Morphism × Morphism
+equation_of_sense (law first last) = (first, last)
+equation_of_sense _ = (empty, empty)
+
+-- the equation that a name behind a `by` stands for, with its sides exchanged behind a `-`
+abbrev pub equation_at : Site → SignedAst → Morphism × Morphism
+equation_at site signed = directed signed.minus (option_map_or (λ binding. equation_of_sense binding.sense) (binding_at site signed.name) (empty, empty))
+  where
+    directed : Bool → Morphism × Morphism → Morphism × Morphism
+    directed minus equation = if minus then (equation.1, equation.0) else equation
+
+-- what a step rests on
+abbrev pub reason_at : Site → ReasonAst → Reason
+reason_at site Plain = by_laws
+reason_at site (Rule signed) = by_rule (equation_at site signed)
+reason_at site (Simp rules) = by_simp (map (equation_at site) rules)
+
+-- what the steps of a rewrite rest on, that of a hole among them
+abbrev pub steps_at : Site → StatementTree → List Reason
+steps_at site (rewrite name first steps) = map (λ step. reason_at site step.reason) steps
+steps_at site _ = []
+
+-- the last step of a rewrite is a hole
+abbrev pub has_hole : StatementTree → Bool
+has_hole (rewrite name first steps) = list_any (λ step. is_none step.goal) steps
+has_hole _ = false
+
+-- the tests of a statement where it stands
+abbrev pub tests_at : Site → StatementTree → List Test
+tests_at site tree = tests_of_statement (meaning_at site) tree
+
+-- the statement is an import
+abbrev pub is_import : StatementTree → Bool
+is_import (inclusion imported prefix) = true
+is_import _ = false
+
+-- nothing refuses the statement
+pub record Passes (site : Site) (tree : StatementTree) : Type 0 where
+  pub fresh : is_declared site ≡ false
+  pub built : is_import tree ≡ false
+  pub known : first_fault site tree ≡ None
+  pub small : AreWithinLimits tree (terms_of site tree)
+  pub typed : AllHold (tests_at site tree)
+  pub proved : first_unproved site tree ≡ None
+
+-- The statement is refused with this verdict, that of the first of these points that holds: its name is bound already; it
+-- is an import, which gets `not-built`; a name that it uses is at fault; it passes a limit; its terms have no types, or
+-- types that don't agree; it rests on a rewrite that is not proved.
+pub data IsRefused (site : Site) (tree : StatementTree) : Verdict → Type 0 where
+  declared : IsTrue (is_declared site) → IsRefused site tree (Declared 1)
+  import_ : is_declared site ≡ false → IsTrue (is_import tree) → IsRefused site tree NotBuilt
+  at_name : {verdict : Verdict} → is_declared site ≡ false → is_import tree ≡ false → first_fault site tree ≡ Some verdict → IsRefused site tree verdict
+  too_big : is_declared site ≡ false → is_import tree ≡ false → first_fault site tree ≡ None → ¬ AreWithinLimits tree (terms_of site tree)
+      → IsRefused site tree TooBig
+  mistyped : {token : ℕ} → is_declared site ≡ false → is_import tree ≡ false → first_fault site tree ≡ None → AreWithinLimits tree (terms_of site tree)
+      → FailsFirst (tests_at site tree) token → IsRefused site tree (Mistyped token)
+  unproved : {token : ℕ} → is_declared site ≡ false → is_import tree ≡ false → first_fault site tree ≡ None → AreWithinLimits tree (terms_of site tree)
+      → AllHold (tests_at site tree) → first_unproved site tree ≡ Some token → IsRefused site tree (Unproved token)
+
+-- a body holds the terms and the steps of the statement, and whether its last step is a hole
+pub record IsBody (site : Site) (tree : StatementTree) (body : Body) : Type 0 where
+  pub terms : morphisms_of body.terms ≡ terms_of site tree
+  pub steps : reasons_of body.steps ≡ steps_at site tree
+  pub hole : body.hole ≡ has_hole tree

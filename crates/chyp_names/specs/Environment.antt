@@ -1,0 +1,28 @@
+-- Environments: what names stand for.
+use Rattle.std.specs.Prelude.{ℕ, Bool, List, Option, find, is_some}
+use Rattle.std.specs.Str.{bytes_eq}
+use Rattle.chyp_base.specs.declared.sort.Sort.{Sort}
+use Rattle.chyp_term.specs.Morphism.{Morphism}
+
+-- What a name stands for: a generator, by its name in terms and its type; a term; a law, from its first side to its last;
+-- a rewrite that is not proved; or a statement that was refused.
+pub data Sense : Type 0 where
+  generator : (name : List ℕ) (dom cod : List Sort) → Sense
+  abbreviation : (term : Morphism) → Sense
+  law : (first last : Morphism) → Sense
+  unproved : Sense
+  broken : Sense
+
+-- a name, the statement that it comes from, by its module and its number there, and what the name stands for
+pub record Binding : Type 0 where
+  pub name : List ℕ
+  pub origin : List ℕ × ℕ
+  pub sense : Sense
+
+-- the binding of a name, None where it has none
+abbrev pub binding_of : List Binding → List ℕ → Option Binding
+binding_of env name = find (λ b. bytes_eq name b.name) env
+
+-- whether a name has a binding
+abbrev pub is_bound : List Binding → List ℕ → Bool
+is_bound env name = is_some (binding_of env name)

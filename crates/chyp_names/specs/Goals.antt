@@ -1,0 +1,34 @@
+-- The terms that the steps of a rewrite lead to. No public clause cites this.
+use Rattle.std.specs.Prelude.{◌≡◌, ◌+◌, ℕ, ◌≤◌, List, map, Option, None, Some, option_map, All, IfSome, sum_by}
+use Rattle.std.specs.List.{filter_map}
+use Rattle.chyp_syntax.specs.declared.step.StepAst.{StepAst}
+use Rattle.chyp_syntax.specs.Step.{StepTree, step_of}
+use Rattle.chyp_syntax.specs.Term.{tree_of}
+use Rattle.chyp_term.specs.Measure.{size_of}
+use Rattle.chyp_term.specs.Morphism.{Morphism}
+use Rattle.chyp_names.specs.Elaboration.{expansion_at}
+use Rattle.chyp_names.specs.Limits.{IsWithinLimits, most_together}
+use Rattle.chyp_names.specs.Site.{Site, meaning_at}
+use Rattle.chyp_names.specs.Typing.{AllHold, tests_of}
+
+-- the term of a goal, None for a hole
+abbrev pub goal_term : Site → StepTree → Option Morphism
+goal_term site step = option_map (expansion_at site) step.goal
+
+-- the terms of the goals of steps
+abbrev pub goal_terms : Site → List StepAst → List Morphism
+goal_terms site steps = filter_map (goal_term site) (map step_of steps)
+
+-- terms behind others of this size together are within the limits
+pub record FitBehind (before : ℕ) (terms : List Morphism) : Type 0 where
+  pub each : All IsWithinLimits terms
+  pub together : before + sum_by size_of terms ≤ most_together
+
+-- the size of these terms with those before them, None where they don't fit
+abbrev pub IsSum : ℕ → List Morphism → Option ℕ → Type 0
+IsSum before terms (Some sum) = FitBehind before terms × (sum ≡ before + sum_by size_of terms)
+IsSum before terms None = ¬ FitBehind before terms
+
+-- the tests of the goal of a step hold
+abbrev pub GoalHolds : Site → StepAst → Type 0
+GoalHolds site step = IfSome step.goal (λ tree. AllHold (tests_of (meaning_at site) (tree_of tree)))

@@ -1,0 +1,18 @@
+// What names stand for.
+use chyp_base::Name;
+use chyp_term::{Equation, Shape, Term};
+
+/// What a name stands for. Contracts see it through `sense_of` of `specs/Entry.antt`.
+#[derive(Debug, Drop)]
+pub enum Meaning {
+    /// A generator, by its name in terms and its type.
+    Generator(Name, Shape),
+    /// A term.
+    Abbrev(Term),
+    /// A law, which leads from its left side to its right one.
+    Law(Equation),
+    /// A rewrite that is not proved.
+    Unproved,
+    /// A statement that was refused.
+    Broken,
+}

@@ -1,0 +1,120 @@
+// What the steps of a rewrite rest on.
+ghost use Rattle.std.specs.Prelude.{◌≡◌, [], map, All, IfOk, None};
+ghost use Rattle.chyp_syntax.specs.Statement.{statement_of};
+ghost use Rattle.chyp_syntax.specs.Step.{step_of};
+ghost use Rattle.chyp_term.specs.Equation.{equation_of, equations_of};
+ghost use Rattle.chyp_term.specs.Step.{reason_of, reasons_of};
+ghost use Rattle.chyp_names.specs.ChunkView.{IsLent, site_of};
+ghost use Rattle.chyp_names.specs.Elaboration.{equation_at, reason_at, steps_at};
+ghost use Rattle.chyp_names.specs.Laws.{IsLawAt, RestsOnLaws};
+ghost use Rattle.chyp_names.specs.Naming.{first_fault, first_unproved};
+
+use crate::{ChunkView, Env, Meaning};
+use chyp_base::NoMemory;
+use chyp_syntax::{Ast, ReasonAst, SignedAst, StepAst, text_at};
+use chyp_term::{Equation, Equations, Step, StepList, copy};
+use std::alloc::Global;
+
+// The equation of a rule, with its sides exchanged behind a `-`.
+fn equation(
+    alloc: Global,
+    rule: SignedAst,
+    chunk: &ChunkView<'_>,
+    env: &Env,
+) -> Result<Equation, NoMemory>
+    requires lent { IsLent chunk.now }
+    requires law { IsLawAt (site_of [] chunk.now env.now) rule.name }
+    ensures { IfOk result (λ equation. equation_of equation ≡ equation_at (site_of [] chunk.now env.now) rule) }
+{
+    let Some(entry) = env.lookup(text_at(chunk.first, chunk.tokens, rule.name)) else {
+        unreachable!()
+    };
+    let Meaning::Law(law) = &entry.meaning else {
+        unreachable!()
+    };
+    let left = copy(alloc, &law.left)?;
+    let right = copy(alloc, &law.right)?;
+    if rule.minus {
+        Ok(Equation {
+            left: right,
+            right: left,
+        })
+    } else {
+        Ok(Equation { left, right })
+    }
+}
+
+// The equations of some rules.
+fn equations(
+    alloc: Global,
+    rules: &[SignedAst],
+    chunk: &ChunkView<'_>,
+    env: &Env,
+) -> Result<Equations, NoMemory>
+    requires lent { IsLent chunk.now }
+    requires laws { All (λ rule. IsLawAt (site_of [] chunk.now env.now) rule.name) rules.now }
+    ensures { IfOk result (λ equations. equations_of equations ≡ map (equation_at (site_of [] chunk.now env.now)) rules.now) }
+{
+    let mut equations = Vec::with_capacity(alloc, rules.len())?;
+    for rule in rules {
+        equations.push(equation(alloc, *rule, chunk, env)?)?;
+    }
+    Ok(Equations::from_vec(equations))
+}
+
+// What a step rests on.
+fn step(
+    alloc: Global,
+    reason: &ReasonAst,
+    chunk: &ChunkView<'_>,
+    env: &Env,
+) -> Result<Step, NoMemory>
+    requires lent { IsLent chunk.now }
+    requires laws { RestsOnLaws (site_of [] chunk.now env.now) reason.now }
+    ensures { IfOk result (λ step. reason_of step ≡ reason_at (site_of [] chunk.now env.now) reason.now) }
+{
+    match reason {
+        ReasonAst::Plain => Ok(Step::Refl),
+        ReasonAst::Rule(rule) => Ok(Step::ByRule(equation(alloc, *rule, chunk, env)?)),
+        ReasonAst::Simp(rules) => {
+            Ok(Step::Simp(equations(alloc, rules.as_slice(), chunk, env)?))
+        }
+    }
+}
+
+// What some steps rest on.
+fn step_list(
+    alloc: Global,
+    steps: &[StepAst],
+    chunk: &ChunkView<'_>,
+    env: &Env,
+) -> Result<StepList, NoMemory>
+    requires lent { IsLent chunk.now }
+    requires laws { All (λ step. RestsOnLaws (site_of [] chunk.now env.now) step.reason) steps.now }
+    ensures { IfOk result (λ list. reasons_of list ≡ map (λ step. reason_at (site_of [] chunk.now env.now) step.reason) (map step_of steps.now)) }
+{
+    let mut list = Vec::with_capacity(alloc, steps.len())?;
+    for ast in steps {
+        list.push(step(alloc, &ast.reason, chunk, env)?)?;
+    }
+    Ok(StepList::from_vec(list))
+}
+
+/// What the steps of a statement rest on, that of a hole last. Its names are in order, and all that are
+/// behind a `by` are proved.
+pub(crate) fn steps(
+    alloc: Global,
+    ast: &Ast,
+    chunk: &ChunkView<'_>,
+    env: &Env,
+) -> Result<StepList, NoMemory>
+    requires lent { IsLent chunk.now }
+    requires known { first_fault (site_of [] chunk.now env.now) (statement_of ast.now) ≡ None }
+    requires proved { first_unproved (site_of [] chunk.now env.now) (statement_of ast.now) ≡ None }
+    ensures { IfOk result (λ list. reasons_of list ≡ steps_at (site_of [] chunk.now env.now) (statement_of ast.now)) }
+{
+    match ast {
+        Ast::RewriteDecl { steps, .. } => step_list(alloc, steps.as_slice(), chunk, env),
+        _ => Ok(StepList::from_vec(Vec::new(alloc))),
+    }
+}
