@@ -1,10 +1,11 @@
 //! The program `chyp`, which checks theory files of string diagrams.
 //!
-//! `run` is the whole program over an outside that is handed in: a source of bytes, a sink for bytes, a library of
-//! modules and a counter of steps. Its contract says which bytes it writes and which status it ends with, for every
-//! text, where the outside tells what it holds: `proved` stands in what it writes only where the laws of symmetric
-//! monoidal categories derive the equation, and `differs` only where they can't. It also says what may come where the
-//! outside fails. `main` makes the real outside, calls `run`, and says a failure on standard error.
+//! `run` is the whole program over an outside that is handed in: a source of bytes, a sink for bytes, a
+//! library of modules and a counter of steps. Its contract says which bytes it writes and which status
+//! it ends with, for every text, where the outside tells what it holds: `proved` stands in what it
+//! writes only where the laws of symmetric monoidal categories derive the equation, and `differs` only
+//! where they can't. It also says what may come where the outside fails. `main` makes the real outside,
+//! calls `run`, and says a failure on standard error.
 #![tactic(auto)]
 
 mod check;

@@ -66,8 +66,9 @@ fn check<S: Source, K: Sink, G: Ledger>(
 
 /// Obeys the words of the command line, over the outside that is handed in.
 ///
-/// `check` reads a text from the source, checks each of its statements, at one step each, and writes the report to the
-/// sink. The library is not asked. The status says how the run ended; `NoMemory` may come at any point.
+/// `check` reads a text from the source, checks each of its statements, at one step each, and writes
+/// the report to the sink. The library is not asked. The status says how the run ended; `NoMemory` may
+/// come at any point.
 pub fn run<S: Source, K: Sink, L: Library, G: Ledger>(
     alloc: Global,
     words: &[&str],

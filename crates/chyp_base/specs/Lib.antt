@@ -4,6 +4,7 @@ pub mod MemLibrary
 pub mod MemSink
 pub mod MemSource
 pub mod Sort
+pub mod Sorts
 pub mod Status
 pub mod StdSink
 pub mod Verdict

@@ -1,4 +1,4 @@
-//! Names, sorts, verdicts, and all that the prover asks of the outside.
+//! Names, sorts, verdicts, and all that the checker asks of the outside.
 //!
 //! A [`Source`] gives bytes, a [`Sink`] takes them, and a [`Library`] finds modules by name. Each
 //! counts its faults, and answers `Failed` only where that count rose in the call; every other answer

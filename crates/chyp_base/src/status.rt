@@ -2,7 +2,7 @@
 ghost use Rattle.std.specs.Prelude.{◌≡◌};
 ghost use Rattle.chyp_base.specs.Status.{number_of};
 
-/// How a run of the prover ends.
+/// How a run of the checker ends.
 #[derive(Clone, Copy, Debug, PartialEq, Eq)]
 pub enum Status {
     /// The run ended, and every statement of the text is good.

@@ -31,9 +31,9 @@ fn names_and_lists_are_shared_and_compared(rt: HostRuntime) -> Result<(), Fail> 
     assert_eq!(rt; sorts.as_slice().len(), 2);
     let again = sorts.share()?;
     assert!(rt; again == sorts);
-    let mut fewer = again.into_vec();
-    fewer.pop();
-    assert!(rt; Sorts::from_vec(fewer) != sorts);
+    let twice = again.into_shared()?.beside(&sorts)?;
+    assert!(rt; twice != sorts);
+    assert_eq!(rt; twice.into_vec()?.len(), 4);
 
     let text = Text::from_vec(Vec::from_slice(alloc, b"\xff\n")?);
     assert_eq!(rt; text.as_slice(), b"\xff\n".as_slice());

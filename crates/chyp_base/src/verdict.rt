@@ -4,7 +4,7 @@ ghost use Rattle.chyp_base.specs.Verdict.{is_good};
 
 use crate::Name;
 
-/// What the prover says of a statement.
+/// What the checker says of a statement.
 ///
 /// A `token` is the number of a token within its statement, from 0, and a `step` is the number of a
 /// step of a rewrite, from 1.
@@ -16,7 +16,8 @@ pub enum Verdict {
     Proved,
     /// A rewrite has no step yet, or its last goal is still open, and each step before it holds.
     Unfinished,
-    /// The statement is one that a later version will judge.
+    /// Nothing refuses the statement, and it is of a kind that isn't judged yet: an import, or a rewrite
+    /// with a `by` behind a term.
     NotBuilt,
     /// The statement is no sentence of the language. This is the first token that shows it, or the
     /// number of tokens where only the end does.

@@ -4,13 +4,14 @@ use Rattle.std.proofs.lemmas.List.Elements.{All-nil}
 use Rattle.chyp_term.specs.Derivation.{IsEquation}
 use Rattle.chyp_term.specs.Morphism.{Morphism, cod, dom, IsTyped}
 use Rattle.chyp_theory.specs.Laws.{PermutationsAreDecided, SortsAreDecided}
+use Rattle.chyp_env.specs.Environment.{Sense, generator, abbreviation, law, unproved, broken}
+use Rattle.chyp_env.specs.Site.{term_of}
+use Rattle.chyp_env.specs.Sound.{IsSoundSense}
+use Rattle.chyp_env.specs.Typing.{Condition, Holds, permutes, meets, agrees}
+use Rattle.chyp_env.proofs.Typed.{no_place}
 use Rattle.chyp_names.specs.Elaboration.{terms_of}
-use Rattle.chyp_names.specs.Environment.{Sense, generator, abbreviation, law, unproved, broken}
-use Rattle.chyp_names.specs.Site.{term_of}
-use Rattle.chyp_names.specs.Sound.{AreTypedAlike, IsSoundSense}
-use Rattle.chyp_names.specs.Typing.{Condition, Holds, permutes, meets, agrees}
+use Rattle.chyp_names.specs.Typing.{AreTypedAlike}
 use Rattle.chyp_names.proofs.Statements.{alike-each, meaning-typed, statement-alike}
-use Rattle.chyp_names.proofs.Typed.{no_place}
 use Rattle.chyp_check.proofs.SomeVerdict.{PassingTermsAreTyped}
 
 -- each condition holds or it doesn't

@@ -10,10 +10,10 @@ use Rattle.chyp_syntax.specs.Numbered.{NumberedToken, numbered, BeginsWithKind}
 use Rattle.chyp_syntax.specs.Sentence.{IsSentence, IsStatement, is_gen, is_let, is_rule, is_rewrite, is_import, is_import_as, is_show}
 use Rattle.chyp_syntax.specs.Statement.{StatementTree, generator as a_gen, definition, rule, rewrite, inclusion, showing}
 use Rattle.chyp_term.specs.Morphism.{Morphism, generator as a_generator}
+use Rattle.chyp_env.specs.Environment.{Sense, Binding, is_bound}
+use Rattle.chyp_env.specs.Site.{Site}
 use Rattle.chyp_names.specs.Binding.{Binds, nothing, again, anew, IsRewrite, StandsFor, a_declared_generator, a_term, a_rule, a_proved_rewrite, an_unproved_rewrite, a_broken_statement}
 use Rattle.chyp_names.specs.Elaboration.{terms_of}
-use Rattle.chyp_names.specs.Environment.{Sense, Binding, is_bound}
-use Rattle.chyp_names.specs.Site.{Site}
 use Rattle.chyp_check.specs.Verdicts.{GetVerdicts, no_more, one_more, site}
 use Rattle.chyp_check.proofs.OneVerdict.{judged-once, none-some, some-once, true-false}
 

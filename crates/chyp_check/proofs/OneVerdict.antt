@@ -11,10 +11,10 @@ use Rattle.chyp_syntax.specs.Statement.{StatementTree, rewrite}
 use Rattle.chyp_syntax.specs.Step.{StepTree}
 use Rattle.chyp_term.specs.Derivation.{Derives}
 use Rattle.chyp_term.specs.Morphism.{Morphism}
+use Rattle.chyp_env.specs.Site.{Site, is_declared}
+use Rattle.chyp_env.specs.Typing.{AllHold, FailsFirst, Holds, Test}
 use Rattle.chyp_names.specs.Elaboration.{Passes, IsRefused, declared, import_, at_name, too_big, mistyped, unproved, tests_at, is_import, terms_of}
 use Rattle.chyp_names.specs.Naming.{first_fault, first_unproved}
-use Rattle.chyp_names.specs.Site.{Site, is_declared}
-use Rattle.chyp_names.specs.Typing.{AllHold, FailsFirst, Holds, Test}
 use Rattle.chyp_check.specs.Judged.{IsJudged, no_sentence, refused, accepted, by_steps, is_rewrite}
 use Rattle.chyp_check.specs.Steps.{IsVerdictOnSteps, not_built, differs, unfinished, proved, equations_between, AreDerived}
 

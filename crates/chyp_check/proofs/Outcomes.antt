@@ -12,12 +12,12 @@ use Rattle.chyp_syntax.proofs.Spans.{spans_few}
 use Rattle.chyp_term.specs.Measure.{size_of}
 use Rattle.chyp_term.specs.Morphism.{Morphism, generator, permutation, then, beside}
 use Rattle.chyp_term.specs.Term.{morphisms_of}
+use Rattle.chyp_env.specs.declared.chunk_view.ChunkView.{ChunkView}
+use Rattle.chyp_env.specs.ChunkView.{IsLent}
+use Rattle.chyp_env.specs.Site.{Site}
 use Rattle.chyp_names.specs.declared.body.Body.{Body}
-use Rattle.chyp_names.specs.declared.chunk_view.ChunkView.{ChunkView}
 use Rattle.chyp_names.specs.Binding.{IsOutcome}
-use Rattle.chyp_names.specs.ChunkView.{IsLent}
 use Rattle.chyp_names.specs.Elaboration.{IsBody, IsRefused, Passes, terms_of}
-use Rattle.chyp_names.specs.Site.{Site}
 use Rattle.chyp_check.specs.Judged.{IsJudged, IsVerdictOf, accepted, by_steps, is_rewrite}
 use Rattle.chyp_check.specs.Steps.{IsVerdictOnSteps, not_built, differs, unfinished, proved}
 use Rattle.chyp_check.proofs.OneBinding.{keyword_of_tree, rewrite-begins, sentence-is_rewrite}

@@ -15,14 +15,15 @@ use Rattle.chyp_syntax.specs.Statement.{StatementTree, generator as a_gen, defin
 use Rattle.chyp_syntax.specs.Step.{StepTree}
 use Rattle.chyp_syntax.specs.Term.{TermTree}
 use Rattle.chyp_term.specs.Derivation.{IsEquation}
+use Rattle.chyp_env.specs.Expansion.{plain_wires}
+use Rattle.chyp_env.specs.Environment.{Sense, generator, abbreviation, law, unproved, broken, Binding}
+use Rattle.chyp_env.specs.Limits.{IsWithinLimits}
+use Rattle.chyp_env.specs.Site.{Site, binding_at}
+use Rattle.chyp_env.specs.Sound.{IsSound, IsSoundSense}
 use Rattle.chyp_names.specs.Binding.{IsRewrite, StandsFor, a_declared_generator, a_term, a_rule, a_proved_rewrite, an_unproved_rewrite, a_broken_statement}
 use Rattle.chyp_names.specs.Elaboration.{Passes, IsRefused, declared, import_, at_name, too_big, mistyped, unproved as rests_on_unproved, expansion_at, generator_name, terms_of}
-use Rattle.chyp_names.specs.Expansion.{plain_wires}
-use Rattle.chyp_names.specs.Environment.{Sense, generator, abbreviation, law, unproved, broken, Binding}
-use Rattle.chyp_names.specs.Limits.{IsWithinLimits}
 use Rattle.chyp_names.specs.Naming.{Use, in_term, in_reason, in_show, fault_of, fault_in_reason, fault_in_term, fault_or_unknown, uses_of}
-use Rattle.chyp_names.specs.Site.{Site, binding_at}
-use Rattle.chyp_names.specs.Sound.{IsSound, IsSoundSense, AreTypedAlike}
+use Rattle.chyp_names.specs.Typing.{AreTypedAlike}
 use Rattle.chyp_check.specs.Judged.{IsJudged, no_sentence, refused, accepted, by_steps, is_rewrite}
 use Rattle.chyp_check.specs.Steps.{IsVerdictOnSteps, not_built, differs, unfinished, proved}
 use Rattle.chyp_syntax.proofs.Verdicts.{same-kinds}

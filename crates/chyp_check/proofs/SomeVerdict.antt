@@ -12,12 +12,14 @@ use Rattle.chyp_syntax.specs.Step.{StepTree}
 use Rattle.chyp_term.specs.Derivation.{Derives, IsEquation, same, chain}
 use Rattle.chyp_term.specs.Measure.{size_of, depth_of, generators_of}
 use Rattle.chyp_term.specs.Morphism.{Morphism, IsTyped}
+use Rattle.chyp_env.specs.Limits.{IsWithinLimits, most_depth, most_generators, most_ports, most_size}
+use Rattle.chyp_env.specs.Site.{Site, is_declared}
+use Rattle.chyp_env.specs.Sound.{IsSound}
+use Rattle.chyp_env.specs.Typing.{AllHold, FailsFirst, Test}
 use Rattle.chyp_names.specs.Elaboration.{Passes, IsRefused, declared, import_, at_name, too_big, mistyped, unproved, tests_at, is_import, terms_of}
-use Rattle.chyp_names.specs.Limits.{AreWithinLimits, HasFewPorts, IsWithinLimits, most_depth, most_generators, most_ports, most_size, most_together}
+use Rattle.chyp_names.specs.Limits.{AreWithinLimits, HasFewPorts, most_together}
 use Rattle.chyp_names.specs.Naming.{first_fault, first_unproved}
-use Rattle.chyp_names.specs.Site.{Site, is_declared}
-use Rattle.chyp_names.specs.Sound.{IsSound, AreTypedAlike}
-use Rattle.chyp_names.specs.Typing.{AllHold, FailsFirst, Test}
+use Rattle.chyp_names.specs.Typing.{AreTypedAlike}
 use Rattle.chyp_check.specs.Judged.{IsJudged, no_sentence, refused, accepted, by_steps}
 use Rattle.chyp_check.proofs.OneVerdict.{some-once}
 use Rattle.chyp_check.specs.Steps.{IsVerdictOnSteps, not_built, differs, unfinished, proved, equations_between, needs_rules, is_open, AreDerived}

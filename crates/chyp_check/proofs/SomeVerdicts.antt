@@ -6,10 +6,10 @@ use Rattle.chyp_lex.specs.declared.token.Token.{Token}
 use Rattle.chyp_syntax.specs.declared.chunk.Chunk.{Chunk}
 use Rattle.chyp_syntax.specs.Failing.{ArePrefixesClosed, HasOneTree, IsSentenceOrFails}
 use Rattle.chyp_syntax.specs.Heading.{declared_name}
+use Rattle.chyp_env.specs.Environment.{Binding, is_bound}
+use Rattle.chyp_env.specs.Site.{Site}
+use Rattle.chyp_env.specs.Sound.{IsSound, IsSoundSense, HasDistinctNames}
 use Rattle.chyp_names.specs.Binding.{Binds, nothing, again, anew}
-use Rattle.chyp_names.specs.Environment.{Binding, is_bound}
-use Rattle.chyp_names.specs.Site.{Site}
-use Rattle.chyp_names.specs.Sound.{IsSound, IsSoundSense, HasDistinctNames}
 use Rattle.chyp_check.specs.Judged.{IsJudged}
 use Rattle.chyp_check.specs.Verdicts.{GetVerdicts, no_more, one_more, HaveOneListOfVerdicts, site, statements_of}
 use Rattle.chyp_check.proofs.OneBinding.{verdicts-once}

@@ -7,7 +7,7 @@ use Rattle.chyp_term.specs.Morphism.{Morphism}
 use Rattle.chyp_term.specs.Measure.{size_of}
 use Rattle.chyp_term.specs.Term.{morphism_of, morphisms_of}
 use Rattle.chyp_term.specs.declared.term.Term.{Term}
-use Rattle.chyp_names.specs.Sound.{AreTypedAlike}
+use Rattle.chyp_names.specs.Typing.{AreTypedAlike}
 use Rattle.chyp_check.specs.Steps.{AreDerived, equations_between}
 use Rattle.chyp_check.proofs.OneVerdict.{slice_get-read}
 

@@ -3,7 +3,7 @@ use Rattle.std.proofs.Common.{◌≡◌, ℕ, ◌<◌, false, List, [], ◌∷�
 use Rattle.chyp_base.specs.declared.verdict.Verdict.TheVariants.{Differs, Proved}
 use Rattle.chyp_syntax.specs.Step.{StepTree}
 use Rattle.chyp_term.specs.Morphism.{Morphism}
-use Rattle.chyp_names.specs.Sound.{AreTypedAlike}
+use Rattle.chyp_names.specs.Typing.{AreTypedAlike}
 use Rattle.chyp_check.specs.Steps.{AreDerived, FailsAtStep, IsVerdictOnSteps, differs, proved, equations_between, is_open, needs_rules}
 use Rattle.chyp_check.proofs.SomeVerdict.{ends-derived}
 

@@ -12,8 +12,8 @@ use Rattle.chyp_syntax.specs.Chunk.{AreChunks, Tile}
 use Rattle.chyp_syntax.specs.Heading.{chunk_tokens}
 use Rattle.chyp_syntax.specs.declared.chunk.Chunk.{Chunk}
 use Rattle.chyp_syntax.proofs.Spans.{here, is_here, spans_few}
+use Rattle.chyp_env.specs.Environment.{Binding}
 use Rattle.chyp_names.specs.Binding.{Binds}
-use Rattle.chyp_names.specs.Environment.{Binding}
 use Rattle.chyp_check.specs.Judged.{IsJudged}
 use Rattle.chyp_check.specs.Verdicts.{AreVerdicts, GetVerdicts, no_more, one_more, site, statements_of}
 use Rattle.chyp_check.proofs.SomeVerdicts.{verdicts-more}

@@ -8,8 +8,8 @@ use Rattle.chyp_syntax.specs.Statement.{StatementTree, rewrite}
 use Rattle.chyp_syntax.specs.Step.{StepTree}
 use Rattle.chyp_syntax.specs.Term.{TermTree}
 use Rattle.chyp_term.specs.Morphism.{Morphism}
+use Rattle.chyp_env.specs.Site.{Site}
 use Rattle.chyp_names.specs.Elaboration.{Passes, IsRefused, terms_of}
-use Rattle.chyp_names.specs.Site.{Site}
 use Rattle.chyp_check.specs.Steps.{IsVerdictOnSteps}
 
 -- the statement is a rewrite

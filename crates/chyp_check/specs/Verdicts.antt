@@ -4,9 +4,9 @@ use Rattle.chyp_base.specs.declared.verdict.Verdict.{Verdict}
 use Rattle.chyp_lex.specs.declared.token.Token.{Token}
 use Rattle.chyp_syntax.specs.declared.chunk.Chunk.{Chunk}
 use Rattle.chyp_syntax.specs.Heading.{chunk_tokens}
+use Rattle.chyp_env.specs.Environment.{Binding}
+use Rattle.chyp_env.specs.Site.{Site}
 use Rattle.chyp_names.specs.Binding.{Binds}
-use Rattle.chyp_names.specs.Environment.{Binding}
-use Rattle.chyp_names.specs.Site.{Site}
 use Rattle.chyp_check.specs.Judged.{IsJudged}
 
 -- a statement of a module behind statements that have made this environment

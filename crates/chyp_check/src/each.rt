@@ -3,8 +3,8 @@ ghost use Rattle.std.specs.Prelude.{◌≡◌, ◌≤◌, ◌+◌, [], length, I
 ghost use Rattle.chyp_lex.specs.Names.{NamesAreText};
 ghost use Rattle.chyp_lex.specs.Tokens.{AreSpans};
 ghost use Rattle.chyp_syntax.specs.Chunk.{AreChunks};
+ghost use Rattle.chyp_env.specs.ChunkView.{IsLent, site_of};
 ghost use Rattle.chyp_names.specs.Binding.{Binds};
-ghost use Rattle.chyp_names.specs.ChunkView.{IsLent, site_of};
 ghost use Rattle.chyp_check.specs.Judged.{IsJudged};
 ghost use Rattle.chyp_check.specs.Verdicts.{AreVerdicts};
 
@@ -12,7 +12,7 @@ use crate::one::judge_statement;
 use crate::{Inputs, Verdicts};
 use chyp_base::{Name, NoMemory, Steps, Verdict};
 use chyp_lex::Token;
-use chyp_names::{ChunkView, Env, bind};
+use chyp_names::{ChunkView, Env, bind_owned};
 use chyp_syntax::{Chunk, chunk_tokens};
 use std::alloc::Global;
 use std::sync::ledger::Ledger;
@@ -35,14 +35,7 @@ fn judge_and_bind(
         env,
     };
     let outcome = judge_statement(alloc, &inputs)?;
-    bind(
-        env,
-        home,
-        index,
-        chunk,
-        outcome.body.as_ref(),
-        &outcome.verdict,
-    )?;
+    bind_owned(env, home, index, chunk, outcome.body, &outcome.verdict)?;
     Ok(outcome.verdict)
 }
 

@@ -4,7 +4,7 @@ ghost use Rattle.std.specs.List.{list_any};
 ghost use Rattle.chyp_syntax.specs.Step.{step_of};
 ghost use Rattle.chyp_term.specs.Measure.{size_of};
 ghost use Rattle.chyp_term.specs.Term.{morphisms_of};
-ghost use Rattle.chyp_names.specs.Sound.{AreTypedAlike};
+ghost use Rattle.chyp_names.specs.Typing.{AreTypedAlike};
 ghost use Rattle.chyp_check.specs.Steps.{AreDerived, FailsAtStep, IsVerdictOnSteps, equations_between, is_hole, is_open, needs_rules, rests_on_rules};
 
 use chyp_base::{NoMemory, Verdict};

@@ -63,7 +63,7 @@ impl Graph {
         requires few_edges { length edges < 2 ^ 31 }
         ensures { IfOk result (λ graph. graph ≡ record { wires = wires; edges = edges; inputs = inputs; outputs = outputs }) }
     {
-        let wires = wires.into_vec();
+        let wires = wires.into_vec()?;
         let edges = edges.into_vec();
         let alloc = *wires.allocator();
         let producers = producers(alloc, wires.len(), &edges)?;

@@ -8,8 +8,9 @@
 //! [`Graph::edge`], [`Graph::wire_sort`], [`Graph::inputs`], [`Graph::outputs`], the counts, and
 //! [`Graph::producer`] and [`Graph::consumer`], which answer None exactly for an input and for an
 //! output. [`Graph::rounds`] gives the round in which each edge is taken away, where each round takes
-//! away the edges whose sources are live by then, in time and memory in proportion to the graph. The definitions of validity, of the graph of a term and of isomorphism stand in `specs/`,
-//! and `proofs/` shows that the graph of a typed term is valid.
+//! away the edges whose sources are live by then, in time and memory in proportion to the graph. The
+//! definitions of validity, of the graph of a term and of isomorphism stand in `specs/`, and `proofs/`
+//! shows that the graph of a typed term is valid.
 #![tactic(auto)]
 
 mod dates;
@@ -34,6 +35,3 @@ pub use edge_view::EdgeView;
 pub use graph::Graph;
 pub use wire_id::WireId;
 pub use wire_ids::WireIds;
-
-#[cfg(test)]
-mod tests;

@@ -19,6 +19,3 @@ mod search;
 pub use compare::same;
 pub use iso::Iso;
 pub use scratch::Scratch;
-
-#[cfg(test)]
-mod tests;

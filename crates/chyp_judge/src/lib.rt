@@ -10,6 +10,3 @@ mod step;
 
 pub use judged::Judged;
 pub use step::judge;
-
-#[cfg(test)]
-mod tests;

@@ -4,8 +4,9 @@
 //! `derivation_gives_same` says that two terms which the laws derive have isomorphic graphs, and
 //! `same_gives_derivation` that two typed terms with isomorphic graphs have a derivation; each is
 //! called for two given terms. `graphs_decide_the_laws` says both over all terms, that the graph of a
-//! typed term is valid, and that of two typed terms there is a derivation or there is none. A derivation is that of `chyp_term`, which names no graph; the graph of
-//! a term and isomorphism are those of `chyp_graph`.
+//! typed term is valid, and that of two typed terms there is a derivation or there is none. A
+//! derivation is that of `chyp_term`, which names no graph; the graph of a term and isomorphism are
+//! those of `chyp_graph`.
 #![tactic(auto)]
 
 ghost use Rattle.std.specs.Prelude.{[]};
@@ -33,15 +34,12 @@ pub fn same_gives_derivation(s: &Term, t: &Term)
 {}
 
 /// Over all terms: typed terms have a derivation by the monoidal laws exactly where their graphs are
-/// isomorphic, these graphs are valid, and so either there is a derivation or there is none. It is the theorem on symmetric monoidal categories of
-/// Bonchi, Gadducci, Kissinger, Sobociński and Zanasi, String Diagram Rewrite Theory II, for graphs
-/// with numbered wires.
+/// isomorphic, these graphs are valid, and so either there is a derivation or there is none. It is the
+/// theorem on symmetric monoidal categories of Bonchi, Gadducci, Kissinger, Sobociński and Zanasi,
+/// String Diagram Rewrite Theory II, for graphs with numbered wires.
 pub fn graphs_decide_the_laws()
     ensures sound { DerivationsAreIsomorphisms }
     ensures complete { IsomorphismsAreDerivations }
     ensures valid { GraphsOfTermsAreValid }
     ensures decided { LawsAreDecided }
 {}
-
-#[cfg(test)]
-mod tests;

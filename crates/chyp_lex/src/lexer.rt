@@ -10,7 +10,7 @@ use std::alloc::Global;
 /// The longest text that `lex` takes: 1 MiB.
 pub const MAX_TEXT_LEN: usize = 1_048_576;
 
-/// The tokens of a text, which is `first` followed by `second`. `second` is empty for now.
+/// The tokens of a text, which is `first` followed by `second`. `second` has to be empty.
 ///
 /// Tokens, blanks and comments are cut by maximal munch, as in the Definition of Standard ML and in
 /// most languages. Characters of names are those of Unicode Standard Annex 31, `XID_Start` or `_`

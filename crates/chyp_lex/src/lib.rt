@@ -21,6 +21,3 @@ mod word;
 pub use laws::{each_name_is_text, every_text_has_one_token_list};
 pub use lexer::{MAX_TEXT_LEN, lex};
 pub use token::{Token, TokenKind};
-
-#[cfg(test)]
-mod tests;

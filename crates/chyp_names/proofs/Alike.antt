@@ -12,16 +12,16 @@ use Rattle.chyp_syntax.specs.Term.{TermTree, tree_of}
 use Rattle.chyp_term.specs.declared.shape.Shape.{Shape}
 use Rattle.chyp_term.specs.Derivation.{IsEquation}
 use Rattle.chyp_term.specs.Morphism.{Morphism, dom, cod, IsTyped}
+use Rattle.chyp_env.specs.Shape.{IsShape}
+use Rattle.chyp_env.specs.Site.{Site, meaning_at}
+use Rattle.chyp_env.specs.Typing.{Test, agrees, Holds, AllHold, FailsFirst, tests_of}
+use Rattle.chyp_env.proofs.Failing.{fails-front, fails-behind, fails-here}
+use Rattle.chyp_env.proofs.Holding.{hold-both}
 use Rattle.chyp_names.specs.Agreement.{Agrees, Disagrees, StepsAgree, StepsDisagree}
 use Rattle.chyp_names.specs.Elaboration.{expansion_at, terms_of, tests_at}
 use Rattle.chyp_names.specs.Goals.{goal_terms}
-use Rattle.chyp_names.specs.Shape.{IsShape}
-use Rattle.chyp_names.specs.Site.{Site, meaning_at}
-use Rattle.chyp_names.specs.Sound.{AreTypedAlike}
-use Rattle.chyp_names.specs.Typing.{Test, agrees, Holds, AllHold, FailsFirst, tests_of, tests_of_other, tests_of_steps}
-use Rattle.chyp_names.proofs.Failing.{fails-front, fails-behind, fails-here}
+use Rattle.chyp_names.specs.Typing.{AreTypedAlike, tests_of_other, tests_of_steps}
 use Rattle.chyp_names.proofs.Goals.{take_more, take_whole, goal_terms-append}
-use Rattle.chyp_names.proofs.Holding.{hold-both}
 
 -- what follows holds of an answer where it is Ok
 pub on_ok : {T E : Type 0} (P Q : Type 0) → (P → Q) → (result : Result T E) → OnOk result P → OnOk result Q

@@ -1,5 +1,5 @@
 -- The terms of goals, step by step, and how big they are together.
-use Rattle.std.proofs.Common.{◌≡◌, ℕ, zero, suc, ◌+◌, ◌<◌, ◌≤◌, List, [], ◌∷◌, ◌++◌, map, length, take, drop, slice_index_or, All, Option, None, Some, refl, sym, ap, subst, ◌∙◌, arith, IsTrue, is_some, true≢false, Bool, Result, Ok, Err, IfOk}
+use Rattle.std.proofs.Common.{◌≡◌, ℕ, zero, suc, ◌+◌, ◌<◌, ◌≤◌, List, [], ◌∷◌, ◌++◌, map, length, take, drop, slice_index_or, All, Option, None, Some, refl, sym, ap, subst, ◌∙◌, arith, IsTrue, is_some, true≢false, Bool}
 use Rattle.std.specs.List.{filter_map}
 use Rattle.std.proofs.lemmas.List.{map-append, take-append-drop, take_all}
 use Rattle.std.proofs.lemmas.List.Elements.{All-nil, All-cons, All-head, All-tail, All-append, filter_map-append}
@@ -13,10 +13,11 @@ use Rattle.chyp_term.specs.Morphism.{Morphism}
 use Rattle.chyp_syntax.specs.declared.statement.Ast.{Ast}
 use Rattle.chyp_syntax.specs.declared.statement.Ast.TheVariants.{LetDecl, RuleDecl, RewriteDecl}
 use Rattle.chyp_syntax.specs.Statement.{statement_of}
+use Rattle.chyp_env.specs.Limits.{IsWithinLimits}
+use Rattle.chyp_env.specs.Site.{Site}
 use Rattle.chyp_names.specs.Elaboration.{expansion_at, terms_of}
 use Rattle.chyp_names.specs.Goals.{goal_term, goal_terms, FitBehind, IsSum}
-use Rattle.chyp_names.specs.Limits.{IsWithinLimits, AreWithinLimits, HasFewPorts, most_together}
-use Rattle.chyp_names.specs.Site.{Site}
+use Rattle.chyp_names.specs.Limits.{AreWithinLimits, HasFewPorts, most_together}
 
 -- one step more
 pub take_more : {X : Type 0} (xs : List X) (k : ℕ) (x : X) → k < length xs → x ≡ slice_index_or xs k x → take (k + 1) xs ≡ take k xs ++ x ∷ []
@@ -109,9 +110,3 @@ pub rewrite_decided : (site : Site) (ast : Ast) (name : ℕ) (first : TermAst) (
     → IsSum 0 (expansion_at site (tree_of first) ∷ goal_terms site items) sum → IsDecided site ast (is_some sum)
 rewrite_decided site ast name first steps items sum e same is =
     subst (λ a. IsDecided site a (is_some sum)) (sym e) (decided site (RewriteDecl name first steps) sum tt (subst (λ xs. IsSum 0 (expansion_at site (tree_of first) ∷ goal_terms site xs) sum) same is))
-
--- the sum of a first term goes on
-pub sum_behind : {E : Type 0} (first : Morphism) (terms : List Morphism) (sum : ℕ) (result : Result (Option ℕ) E) → IsSum 0 (first ∷ []) (Some sum)
-    → IfOk result (IsSum sum terms) → IfOk result (IsSum 0 (first ∷ terms))
-sum_behind first terms sum (Ok next) is h = sum_more 0 sum (first ∷ []) terms next is h
-sum_behind first terms sum (Err e) is h = tt

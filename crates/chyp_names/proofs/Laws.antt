@@ -13,11 +13,11 @@ use Rattle.chyp_syntax.specs.declared.term.TermAst.{TermAst}
 use Rattle.chyp_syntax.specs.Statement.{statement_of}
 use Rattle.chyp_syntax.specs.Step.{step_of}
 use Rattle.chyp_syntax.specs.Term.{tree_of}
+use Rattle.chyp_env.specs.Environment.{Sense, generator, abbreviation, law, unproved, broken, Binding}
+use Rattle.chyp_env.specs.Site.{Site, binding_at}
 use Rattle.chyp_names.specs.Elaboration.{reason_at}
-use Rattle.chyp_names.specs.Environment.{Sense, generator, abbreviation, law, unproved, broken, Binding}
 use Rattle.chyp_names.specs.Laws.{is_law, IsLawAt, RestsOnLaws}
 use Rattle.chyp_names.specs.Naming.{Use, in_reason, names_of_reason, uses_in, uses_in_goal, uses_in_step, fault_of, fault_in_reason, fault_or_unknown, unproved_use, unproved_token, first_fault, first_unproved}
-use Rattle.chyp_names.specs.Site.{Site, binding_at}
 use Rattle.chyp_names.proofs.Firsts.{nil_left, nil_right, none_first}
 use Rattle.chyp_names.proofs.Uses.{unproved_of_rewrite, unproved_in_step, step_uses}
 

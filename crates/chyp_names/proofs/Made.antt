@@ -17,14 +17,15 @@ use Rattle.chyp_syntax.specs.Statement.{StatementTree, generator, definition, ru
 use Rattle.chyp_syntax.specs.Step.{step_of}
 use Rattle.chyp_syntax.specs.Term.{tree_of}
 use Rattle.chyp_term.specs.Morphism.{Morphism}
-use Rattle.chyp_names.specs.declared.chunk_view.ChunkView.{ChunkView}
-use Rattle.chyp_names.specs.ChunkView.{IsLent}
+use Rattle.chyp_env.specs.declared.chunk_view.ChunkView.{ChunkView}
+use Rattle.chyp_env.specs.ChunkView.{IsLent}
+use Rattle.chyp_env.specs.Site.{Site, meaning_at}
+use Rattle.chyp_env.specs.Typing.{Test, agrees, AllHold, tests_of}
+use Rattle.chyp_env.proofs.Holding.{hold-front, hold-behind}
 use Rattle.chyp_names.specs.Elaboration.{expansion_at, tests_at, generator_name}
 use Rattle.chyp_names.specs.Goals.{GoalHolds, goal_terms}
-use Rattle.chyp_names.specs.Site.{Site, meaning_at}
-use Rattle.chyp_names.specs.Typing.{Test, agrees, AllHold, tests_of, tests_of_other, tests_of_steps}
+use Rattle.chyp_names.specs.Typing.{tests_of_other, tests_of_steps}
 use Rattle.chyp_names.proofs.Goals.{take_more, goal_terms-append}
-use Rattle.chyp_names.proofs.Holding.{hold-front, hold-behind}
 
 -- the keyword of a statement
 abbrev pub keyword_for : StatementTree → TokenKind

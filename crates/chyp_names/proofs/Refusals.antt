@@ -10,9 +10,9 @@ use Rattle.chyp_syntax.specs.declared.term.TermAst.{TermAst}
 use Rattle.chyp_syntax.specs.Statement.{StatementTree, statement_of}
 use Rattle.chyp_syntax.specs.Step.{step_of}
 use Rattle.chyp_syntax.specs.Term.{tree_of}
+use Rattle.chyp_env.specs.Site.{Site, is_declared}
 use Rattle.chyp_names.specs.Elaboration.{IsRefused, is_import, has_hole, at_name}
 use Rattle.chyp_names.specs.Naming.{first_fault}
-use Rattle.chyp_names.specs.Site.{Site, is_declared}
 
 -- a fault of names refuses the statement
 pub refused_at_name : (site : Site) (tree : StatementTree) (result : Option Verdict) → is_declared site ≡ false → is_import tree ≡ false → result ≡ first_fault site tree

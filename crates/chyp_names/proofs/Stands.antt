@@ -1,5 +1,5 @@
 -- What a statement stands for, by its keyword and its terms.
-use Rattle.std.proofs.Common.{◌≡◌, ℕ, zero, suc, ◌-◌, ◌<◌, ◌≤◌, List, [], ◌∷◌, ◌++◌, length, get_or, slice_get, Option, None, Some, IfSome, IfNone, refl, sym, ap, subst, ◌∙◌, Bool, true, false, ◌&&◌, true≢false, is_some, cond, arith, All, Bor}
+use Rattle.std.proofs.Common.{◌≡◌, ℕ, zero, suc, ◌-◌, ◌<◌, ◌≤◌, List, [], ◌∷◌, ◌++◌, length, get_or, slice_get, Option, None, Some, IfSome, refl, sym, ap, subst, ◌∙◌, Bool, true, false, ◌&&◌, true≢false, is_some, cond, arith, All, Result, Ok, Err, OnOk, IsTrue}
 use Rattle.std.proofs.lemmas.List.Elements.{All-nil}
 use Rattle.std.proofs.lemmas.List.{length-replicate}
 use Rattle.chyp_base.specs.declared.verdict.Verdict.{Verdict}
@@ -14,18 +14,20 @@ use Rattle.chyp_syntax.specs.Sentence.{IsSentence}
 use Rattle.chyp_syntax.specs.Statement.{StatementTree, generator as a_gen, definition, rule, rewrite, inclusion, showing}
 use Rattle.chyp_term.specs.Derivation.{empty, IsEquation}
 use Rattle.chyp_term.specs.Morphism.{Morphism}
+use Rattle.chyp_term.specs.declared.term.Term.{Term}
 use Rattle.chyp_term.specs.Term.{morphisms_of}
+use Rattle.chyp_env.specs.declared.chunk_view.ChunkView.{ChunkView}
+use Rattle.chyp_env.specs.ChunkView.{site_of}
+use Rattle.chyp_env.specs.Environment.{Sense, Binding, binding_of, is_bound}
+use Rattle.chyp_env.specs.Expansion.{plain_wires}
+use Rattle.chyp_env.specs.Limits.{most_ports}
+use Rattle.chyp_env.specs.Site.{Site}
+use Rattle.chyp_env.specs.Sound.{IsSoundSense}
 use Rattle.chyp_names.specs.declared.body.Body.{Body}
 use Rattle.chyp_names.specs.Binding.{Binds, anew, IsRewrite, StandsFor, a_declared_generator, a_term, a_rule, a_proved_rewrite, an_unproved_rewrite, a_broken_statement, Elaborates, IsOutcome}
 use Rattle.chyp_names.specs.Elaboration.{terms_of, Passes}
-use Rattle.chyp_names.specs.Environment.{Sense, Binding, binding_of, is_bound}
-use Rattle.chyp_names.specs.declared.entry.Entry.{Entry}
-use Rattle.chyp_names.specs.Entry.{entry_of}
-use Rattle.chyp_names.specs.Expansion.{plain_wires}
-use Rattle.chyp_names.specs.Limits.{most_ports}
 use Rattle.chyp_names.specs.Outcome.{keyword_in, terms_in, refused_sense, sense_for, HasTermsFor}
-use Rattle.chyp_names.specs.Site.{Site}
-use Rattle.chyp_names.specs.Sound.{IsSoundSense, AreTypedAlike}
+use Rattle.chyp_names.specs.Typing.{AreTypedAlike}
 use Rattle.chyp_names.proofs.Made.{keyword_for, sentence_keyword}
 
 -- with these terms, the statement stands for the sense of its keyword, which is sound
@@ -172,21 +174,27 @@ terms_alike None h = All-nil (λ s. All (λ t. IsEquation s t) [])
 terms_alike (Some body) h = h
 
 -- a name that a look-up finds is bound
-pub found_bound : (env : List Binding) (name : List ℕ) (result : Option (Bor Entry)) → IfSome result (λ entry. binding_of env name ≡ Some (entry_of entry.now)) → is_some result ≡ true
-    → is_bound env name ≡ true
-found_bound env name (Some entry) h some = ap is_some h
-found_bound env name None h some = absurd (true≢false (sym some))
+pub found_bound : (env : List Binding) (name : List ℕ) (entry : Binding) → binding_of env name ≡ Some entry → IsTrue (is_bound env name)
+found_bound env name entry h = ap is_some h
 
--- and one that it doesn't find is free
-pub unfound_free : (env : List Binding) (name : List ℕ) (result : Option (Bor Entry)) → IfNone result (binding_of env name ≡ None) → is_some result ≡ false → is_bound env name ≡ false
-unfound_free env name (Some entry) h none = absurd (true≢false none)
-unfound_free env name None h none = ap is_some h
+-- what an outcome with this body says of a sense that is that of its terms
+module _ (home : List ℕ) (chunk : ChunkView) (env : List Binding) (body : Option Body) (verdict : Verdict) (name : List ℕ) (outcome : IsOutcome (site_of home chunk env) body verdict)
+    (declared : declared_name chunk.first.now chunk.tokens.now ≡ Some name) where
+  abbrev fit : IsFit (site_of home chunk env) verdict (keyword_in chunk.tokens.now) (morphisms_of (terms_in body))
+  fit = outcome_fit home chunk.first.now env chunk.tokens.now body verdict name outcome declared
 
--- the binding of a statement
-pub binds_anew : (site : Site) (number : ℕ) (verdict : Verdict) (name spelled home : List ℕ) (sense stands : Sense) (new : List Binding) → declared_name site.text site.tokens ≡ Some name
-    → is_bound site.env name ≡ false → StandsFor site verdict stands → spelled ≡ name → home ≡ site.home → sense ≡ stands
-    → new ≡ site.env ++ record { name = spelled; origin = (home, number); sense = sense } ∷ [] → Binds site number verdict new
-binds_anew site number verdict name spelled home sense stands new declared fresh h n m s is =
-    let same : new ≡ site.env ++ record { name = name; origin = (site.home, number); sense = stands } ∷ [] =
-    is ∙ (λ i. site.env ++ record { name = n i; origin = (m i, number); sense = s i } ∷ []) in
-    subst (Binds site number verdict) (sym same) (anew declared fresh h)
+  -- terms are there for it
+  pub has_terms : (keyword : Option TokenKind) (terms : List Term) → keyword ≡ keyword_in chunk.tokens.now → terms ≡ terms_in body → HasTermsFor keyword (morphisms_of terms) verdict
+  has_terms keyword terms k t = rw (k, t) fit.has
+
+  -- it is sound
+  pub sense_sound : (sense : Sense) (keyword : Option TokenKind) (terms : List Term) → keyword ≡ keyword_in chunk.tokens.now → terms ≡ terms_in body
+      → sense ≡ sense_for keyword (morphisms_of terms) verdict → IfSome body (λ b. AreTypedAlike (morphisms_of b.terms)) → IsSoundSense sense
+  sense_sound sense keyword terms k t same typed = rw (same, k, t) (fit.sound (terms_alike body typed))
+
+  -- the name of the statement is bound to it
+  pub sense_binds : {T E : Type 0} (number : ℕ) (sense : Sense) (keyword : Option TokenKind) (terms : List Term) (new : List Binding) (result : Result T E) → keyword ≡ keyword_in chunk.tokens.now
+      → terms ≡ terms_in body → sense ≡ sense_for keyword (morphisms_of terms) verdict → is_bound env name ≡ false
+      → OnOk result (new ≡ env ++ record { name = name; origin = (home, number); sense = sense } ∷ []) → OnOk result (Binds (site_of home chunk env) number verdict new)
+  sense_binds number sense keyword terms new (Ok x) k t same free is = rw (is, same, k, t) (anew declared free fit.stands)
+  sense_binds number sense keyword terms new (Err e) k t same free is = tt

@@ -1,8 +1,7 @@
 -- The terms of trees and of statements whose tests hold are typed.
 use Rattle.std.proofs.Common.{cond, true, false, ◌≡◌, ℕ, List, [], ◌∷◌, Option, Some, None, refl, sym, ◌∙◌, subst}
-use Rattle.std.specs.Prelude.{slice_index, slice_get}
+use Rattle.std.specs.Prelude.{slice_index, slice_get, option_map}
 use Rattle.std.specs.List.{All, filter_map}
-use Rattle.std.specs.Prelude.{option_map}
 use Rattle.std.proofs.lemmas.List.Elements.{All-nil, All-cons, All-head, All-tail}
 use Rattle.std.specs.Option.{option_map_or}
 use Rattle.std.specs.Str.{bytes_eq}
@@ -12,15 +11,16 @@ use Rattle.chyp_syntax.specs.declared.step.ReasonAst.{ReasonAst}
 use Rattle.chyp_syntax.specs.Statement.{StatementTree, generator, definition, rule, rewrite, inclusion, showing}
 use Rattle.chyp_syntax.specs.Step.{StepTree}
 use Rattle.chyp_syntax.specs.Term.{TermTree, TermTrees, named, wire, empty, swap, chain, beside, no_terms, term}
+use Rattle.chyp_env.specs.Expansion.{expansion_in, expansions_in}
+use Rattle.chyp_env.specs.Environment.{Binding, binding_of}
+use Rattle.chyp_env.specs.Site.{Site, term_of, meaning_at}
 use Rattle.chyp_names.specs.Elaboration.{expansion_at, terms_of, tests_at}
-use Rattle.chyp_names.specs.Expansion.{expansion_in, expansions_in}
-use Rattle.chyp_names.specs.Environment.{Binding, binding_of}
-use Rattle.chyp_names.specs.Site.{Site, term_of, meaning_at}
 use Rattle.chyp_syntax.specs.Heading.{text_at}
-use Rattle.chyp_names.specs.Typing.{Test, permutes, meets, agrees, AllHold, tests_of, tests_behind, tests_of_all, tests_of_other, tests_of_steps}
-use Rattle.chyp_names.proofs.Rows.{behind-linked}
-use Rattle.chyp_names.proofs.Holding.{hold-front, hold-behind, hold-head, hold-tail}
-use Rattle.chyp_names.proofs.Typed.{no_place, one_place, two_places, plain_typed, typed-beside, typed-then}
+use Rattle.chyp_env.specs.Typing.{Test, permutes, meets, agrees, AllHold, tests_of, tests_behind, tests_of_all}
+use Rattle.chyp_env.proofs.Rows.{behind-linked}
+use Rattle.chyp_env.proofs.Holding.{hold-front, hold-behind, hold-head, hold-tail}
+use Rattle.chyp_env.proofs.Typed.{no_place, one_place, two_places, plain_typed, typed-beside, typed-then}
+use Rattle.chyp_names.specs.Typing.{tests_of_other, tests_of_steps}
 
 mutual
   -- a tree whose tests hold has a typed term

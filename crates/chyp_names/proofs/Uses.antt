@@ -15,7 +15,7 @@ use Rattle.chyp_names.specs.Faults.{first_unproved_among}
 use Rattle.chyp_syntax.specs.Statement.{statement_of}
 use Rattle.chyp_syntax.specs.declared.statement.Ast.{Ast}
 use Rattle.chyp_syntax.specs.declared.statement.Ast.TheVariants.{GenDecl, LetDecl, RuleDecl, RewriteDecl, ImportDecl, ShowDecl}
-use Rattle.chyp_names.specs.Site.{Site}
+use Rattle.chyp_env.specs.Site.{Site}
 
 -- the names of a part
 abbrev pub part_uses : TermAst → List Use

@@ -6,11 +6,12 @@ use Rattle.chyp_syntax.specs.Term.{TermTree}
 use Rattle.chyp_term.specs.declared.shape.Shape.{Shape}
 use Rattle.chyp_term.specs.Derivation.{IsEquation}
 use Rattle.chyp_term.specs.Morphism.{Morphism}
+use Rattle.chyp_env.specs.Shape.{IsShape}
+use Rattle.chyp_env.specs.Site.{Site, meaning_at}
+use Rattle.chyp_env.specs.Typing.{AllHold, FailsFirst}
 use Rattle.chyp_names.specs.Elaboration.{expansion_at}
 use Rattle.chyp_names.specs.Goals.{goal_terms}
-use Rattle.chyp_names.specs.Shape.{IsShape}
-use Rattle.chyp_names.specs.Site.{Site, meaning_at}
-use Rattle.chyp_names.specs.Typing.{AllHold, FailsFirst, tests_of_other, tests_of_steps}
+use Rattle.chyp_names.specs.Typing.{tests_of_other, tests_of_steps}
 
 -- each term of this type is an equation with the term of the tree, and the tests between them hold
 abbrev pub Agrees : Site → Shape → ℕ → TermTree → Type 0

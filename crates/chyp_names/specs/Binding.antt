@@ -11,10 +11,10 @@ use Rattle.chyp_syntax.specs.Statement.{StatementTree, generator as a_gen, defin
 use Rattle.chyp_syntax.specs.Step.{StepTree}
 use Rattle.chyp_syntax.specs.Term.{TermTree}
 use Rattle.chyp_term.specs.Morphism.{Morphism, generator as a_generator}
+use Rattle.chyp_env.specs.Environment.{Sense, generator, abbreviation, law, unproved, broken, Binding, is_bound}
+use Rattle.chyp_env.specs.Site.{Site}
 use Rattle.chyp_names.specs.declared.body.Body.{Body}
 use Rattle.chyp_names.specs.Elaboration.{terms_of, Passes, IsBody}
-use Rattle.chyp_names.specs.Environment.{Sense, generator, abbreviation, law, unproved, broken, Binding, is_bound}
-use Rattle.chyp_names.specs.Site.{Site}
 
 -- the statement begins with `rewrite`
 abbrev pub IsRewrite : List Token → Type 0

@@ -14,13 +14,14 @@ use Rattle.chyp_term.specs.Derivation.{empty}
 use Rattle.chyp_term.specs.Morphism.{Morphism, generator as a_generator}
 use Rattle.chyp_term.specs.Step.{Reason, by_laws, by_rule, by_simp, reasons_of}
 use Rattle.chyp_term.specs.Term.{morphisms_of}
+use Rattle.chyp_env.specs.Environment.{Sense, law}
+use Rattle.chyp_env.specs.Expansion.{expansion_in, plain_wires}
+use Rattle.chyp_env.specs.Site.{Site, binding_at, is_declared, meaning_at}
+use Rattle.chyp_env.specs.Typing.{Test, AllHold, FailsFirst}
 use Rattle.chyp_names.specs.declared.body.Body.{Body}
-use Rattle.chyp_names.specs.Environment.{Sense, law}
-use Rattle.chyp_names.specs.Expansion.{expansion_in, plain_wires}
 use Rattle.chyp_names.specs.Limits.{AreWithinLimits}
 use Rattle.chyp_names.specs.Naming.{first_fault, first_unproved}
-use Rattle.chyp_names.specs.Site.{Site, binding_at, is_declared, meaning_at}
-use Rattle.chyp_names.specs.Typing.{Test, AllHold, FailsFirst, tests_of_statement}
+use Rattle.chyp_names.specs.Typing.{tests_of_statement}
 
 -- the name of a generator in terms: its identifier in the main text, and `MODULE/IDENTIFIER` in a module
 abbrev pub generator_name : List ℕ → List ℕ → List ℕ

@@ -2,8 +2,8 @@
 use Rattle.std.specs.Prelude.{ℕ, List, Option, slice_get}
 use Rattle.std.specs.List.{filter_map}
 use Rattle.chyp_base.specs.declared.verdict.Verdict.{Verdict}
+use Rattle.chyp_env.specs.Site.{Site}
 use Rattle.chyp_names.specs.Naming.{Use, fault_of, unproved_use}
-use Rattle.chyp_names.specs.Site.{Site}
 
 -- what is wrong with the first of the uses that is at fault
 abbrev pub first_fault_among : Site → List Use → Option Verdict

@@ -6,10 +6,11 @@ use Rattle.chyp_syntax.specs.Step.{StepTree, step_of}
 use Rattle.chyp_syntax.specs.Term.{tree_of}
 use Rattle.chyp_term.specs.Measure.{size_of}
 use Rattle.chyp_term.specs.Morphism.{Morphism}
+use Rattle.chyp_env.specs.Limits.{IsWithinLimits}
+use Rattle.chyp_env.specs.Site.{Site, meaning_at}
+use Rattle.chyp_env.specs.Typing.{AllHold, tests_of}
 use Rattle.chyp_names.specs.Elaboration.{expansion_at}
-use Rattle.chyp_names.specs.Limits.{IsWithinLimits, most_together}
-use Rattle.chyp_names.specs.Site.{Site, meaning_at}
-use Rattle.chyp_names.specs.Typing.{AllHold, tests_of}
+use Rattle.chyp_names.specs.Limits.{most_together}
 
 -- the term of a goal, None for a hole
 abbrev pub goal_term : Site → StepTree → Option Morphism

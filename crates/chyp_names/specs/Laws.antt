@@ -2,9 +2,9 @@
 use Rattle.std.specs.Prelude.{ℕ, Bool, true, false, IsTrue, All}
 use Rattle.std.specs.Option.{option_map_or}
 use Rattle.chyp_syntax.specs.declared.step.ReasonAst.{ReasonAst}
-use Rattle.chyp_names.specs.Environment.{Sense, law}
+use Rattle.chyp_env.specs.Environment.{Sense, law}
+use Rattle.chyp_env.specs.Site.{Site, binding_at}
 use Rattle.chyp_names.specs.Naming.{names_of_reason}
-use Rattle.chyp_names.specs.Site.{Site, binding_at}
 
 -- a name of this sense is a law
 abbrev pub is_law : Sense → Bool

@@ -8,8 +8,8 @@ use Rattle.chyp_syntax.specs.declared.step.ReasonAst.TheVariants.{Plain, Rule, S
 use Rattle.chyp_syntax.specs.Statement.{StatementTree, generator as a_generator, definition, rule, rewrite, inclusion, showing}
 use Rattle.chyp_syntax.specs.Step.{StepTree}
 use Rattle.chyp_syntax.specs.Term.{TermTree, TermTrees, named, wire, empty, swap, chain, beside, no_terms, term}
-use Rattle.chyp_names.specs.Environment.{Sense, generator, abbreviation, law, unproved, broken, Binding}
-use Rattle.chyp_names.specs.Site.{Site, binding_at}
+use Rattle.chyp_env.specs.Environment.{Sense, generator, abbreviation, law, unproved, broken, Binding}
+use Rattle.chyp_env.specs.Site.{Site, binding_at}
 
 -- a name that is used, by the number of its token: in a term, behind a `by`, or behind a `show`
 pub data Use : Type 0 where

@@ -8,8 +8,8 @@ use Rattle.chyp_lex.specs.declared.token.TokenKind.TheVariants.{WordGen, WordLet
 use Rattle.chyp_term.specs.declared.term.Term.{Term}
 use Rattle.chyp_term.specs.Derivation.{empty}
 use Rattle.chyp_term.specs.Morphism.{Morphism, generator as a_generator}
+use Rattle.chyp_env.specs.Environment.{Sense, generator, abbreviation, law, unproved, broken}
 use Rattle.chyp_names.specs.declared.body.Body.{Body}
-use Rattle.chyp_names.specs.Environment.{Sense, generator, abbreviation, law, unproved, broken}
 
 -- the kind of the first token
 abbrev pub keyword_in : List Token → Option TokenKind

@@ -1,17 +1,15 @@
 // Whether the terms of a statement have types that agree.
 ghost use Rattle.std.specs.Prelude.{◌≡◌, ◌↔◌, IsTrue, ℕ, List, [], ◌∷◌, OnOk, IfOk, Err};
-ghost use Rattle.chyp_base.specs.Sort.{plain as the_plain};
 ghost use Rattle.chyp_syntax.specs.Statement.{statement_of};
 ghost use Rattle.chyp_syntax.specs.Term.{tree_of};
+ghost use Rattle.chyp_env.specs.ChunkView.{IsLent, site_of};
+ghost use Rattle.chyp_env.specs.PlainWires.{ArePlain};
+ghost use Rattle.chyp_env.specs.Typing.{AllHold, FailsFirst};
 ghost use Rattle.chyp_names.specs.Agreement.{Agrees, Disagrees, StepsAgree, StepsDisagree};
-ghost use Rattle.chyp_names.specs.ChunkView.{IsLent, site_of};
 ghost use Rattle.chyp_names.specs.Elaboration.{terms_of, tests_at};
-ghost use Rattle.chyp_names.specs.Sound.{AreTypedAlike};
-ghost use Rattle.chyp_names.specs.Typing.{AllHold, FailsFirst};
+ghost use Rattle.chyp_names.specs.Typing.{AreTypedAlike};
 
-use crate::typing::{TypeFault, shape_of_tree};
-use crate::{ChunkView, Env};
-use chyp_base::Sort;
+use chyp_env::{ChunkView, Env, PlainWires, TypeFault, shape_of_tree};
 use chyp_syntax::{Ast, StepAst, TermAst};
 use chyp_term::Shape;
 use std::alloc::Global;
@@ -26,7 +24,7 @@ fn is_same(left: &Shape, right: &Shape) -> bool
 // Whether a tree behind this `=` has this type.
 fn agrees(
     alloc: Global,
-    plain: &Sort,
+    plain: &PlainWires,
     first: &Shape,
     equals: u32,
     tree: &TermAst,
@@ -34,7 +32,7 @@ fn agrees(
     env: &Env,
 ) -> Result<(), TypeFault>
     requires lent { IsLent chunk.now }
-    requires plain { plain.now ≡ the_plain }
+    requires plain { ArePlain plain.now }
     ensures ok { OnOk result (Agrees (site_of [] chunk.now env.now) first.now equals (tree_of tree.now)) }
     ensures fails { (token : ℕ) → result ≡ Err (TypeFault.Fails token) → Disagrees (site_of [] chunk.now env.now) first.now equals (tree_of tree.now) token }
 {
@@ -49,14 +47,14 @@ fn agrees(
 // Whether the goal of a step, if it has one, has this type.
 fn step_agrees(
     alloc: Global,
-    plain: &Sort,
+    plain: &PlainWires,
     first: &Shape,
     step: &StepAst,
     chunk: &ChunkView<'_>,
     env: &Env,
 ) -> Result<(), TypeFault>
     requires lent { IsLent chunk.now }
-    requires plain { plain.now ≡ the_plain }
+    requires plain { ArePlain plain.now }
     ensures ok { OnOk result (StepsAgree (site_of [] chunk.now env.now) first.now (step.now ∷ [])) }
     ensures fails { (token : ℕ) → result ≡ Err (TypeFault.Fails token) → StepsDisagree (site_of [] chunk.now env.now) first.now (step.now ∷ []) token }
 {
@@ -69,14 +67,14 @@ fn step_agrees(
 // Whether the goals of some steps have this type.
 fn steps_agree(
     alloc: Global,
-    plain: &Sort,
+    plain: &PlainWires,
     first: &Shape,
     steps: &[StepAst],
     chunk: &ChunkView<'_>,
     env: &Env,
 ) -> Result<(), TypeFault>
     requires lent { IsLent chunk.now }
-    requires plain { plain.now ≡ the_plain }
+    requires plain { ArePlain plain.now }
     ensures ok { OnOk result (StepsAgree (site_of [] chunk.now env.now) first.now steps.now) }
     ensures fails { (token : ℕ) → result ≡ Err (TypeFault.Fails token) → StepsDisagree (site_of [] chunk.now env.now) first.now steps.now token }
 {
@@ -94,13 +92,13 @@ fn steps_agree(
 /// `NoMemory` where the lists of sorts can't be kept.
 pub(crate) fn types_agree(
     alloc: Global,
-    plain: &Sort,
+    plain: &PlainWires,
     ast: &Ast,
     chunk: &ChunkView<'_>,
     env: &Env,
 ) -> Result<(), TypeFault>
     requires lent { IsLent chunk.now }
-    requires plain { plain.now ≡ the_plain }
+    requires plain { ArePlain plain.now }
     ensures hold { OnOk result (AllHold (tests_at (site_of [] chunk.now env.now) (statement_of ast.now))) }
     ensures alike { OnOk result ((home : List ℕ) → AreTypedAlike (terms_of (site_of home chunk.now env.now) (statement_of ast.now))) }
     ensures fails { (token : ℕ) → result ≡ Err (TypeFault.Fails token) → FailsFirst (tests_at (site_of [] chunk.now env.now) (statement_of ast.now)) token }

@@ -1,17 +1,23 @@
 // What statements bind.
-ghost use Rattle.std.specs.Prelude.{◌≡◌, ◌<◌, ◌-◌, length, IfOk, IfSome, IsUtf8, Some, OnOk, OnErr, option_copied};
+ghost use Rattle.std.specs.Prelude.{◌≡◌, ◌<◌, ◌++◌, ◌∷◌, [], ℕ, List, Option, false, length, IfOk, IfSome, IfNone, IsUtf8, Some, OnOk, OnErr, option_copied};
+ghost use Rattle.chyp_base.specs.declared.verdict.Verdict.{Verdict};
+ghost use Rattle.chyp_lex.specs.declared.token.TokenKind.{TokenKind};
 ghost use Rattle.chyp_lex.specs.declared.token.TokenKind.TheVariants.{WordGen};
+ghost use Rattle.chyp_lex.specs.Tokens.{AreSpans};
+ghost use Rattle.chyp_syntax.specs.Heading.{declared_name};
 ghost use Rattle.chyp_term.specs.Equation.{equation_of};
 ghost use Rattle.chyp_term.specs.Term.{morphism_of, morphisms_of};
+ghost use Rattle.chyp_env.specs.ChunkView.{IsLent, site_of};
+ghost use Rattle.chyp_env.specs.Entry.{sense_of};
+ghost use Rattle.chyp_env.specs.Environment.{is_bound};
+ghost use Rattle.chyp_env.specs.Sound.{IsSoundSense};
 ghost use Rattle.chyp_names.specs.Binding.{Binds, IsOutcome};
-ghost use Rattle.chyp_names.specs.ChunkView.{IsLent, site_of};
-ghost use Rattle.chyp_names.specs.Entry.{sense_of};
 ghost use Rattle.chyp_names.specs.Outcome.{HasTermsFor, IsGenerator, accepted_sense, first_of, generator_sense, keyword_in, last_of, refused_sense, sense_for, terms_in};
-ghost use Rattle.chyp_names.specs.Sound.{AreTypedAlike};
+ghost use Rattle.chyp_names.specs.Typing.{AreTypedAlike};
 
-use crate::known::known_of;
-use crate::{Body, ChunkView, Entry, Env, Meaning, Origin};
+use crate::Body;
 use chyp_base::{Name, NoMemory, Verdict};
+use chyp_env::{ChunkView, Entry, Env, Meaning, Origin};
 use chyp_lex::{Token, TokenKind};
 use chyp_syntax::declared_name;
 use chyp_term::{Equation, Shape, Term, copy};
@@ -35,43 +41,90 @@ fn terms<'a>(body: Option<&'a Body>) -> &'a [Term]
     }
 }
 
+// The terms of a body that is handed over.
+fn into_terms(alloc: Global, body: Option<Body>) -> Vec<Term>
+    ensures { result.items ≡ terms_in body }
+{
+    match body {
+        Some(body) => body.terms.into_vec(),
+        None => Vec::new(alloc),
+    }
+}
+
+// Copies of the first and the last of some terms, one where there is one.
+fn ends(alloc: Global, terms: &[Term]) -> Result<Vec<Term>, NoMemory>
+    ensures some { IfOk result (λ ends. 0 < length terms.now → 0 < length ends.items) }
+    ensures first { IfOk result (λ ends. first_of (morphisms_of ends.items) ≡ first_of (morphisms_of terms.now)) }
+    ensures last { IfOk result (λ ends. last_of (morphisms_of ends.items) ≡ last_of (morphisms_of terms.now)) }
+{
+    match terms {
+        [] => Ok(Vec::new(alloc)),
+        [only] => Ok(vec![in alloc; copy(alloc, only)?]?),
+        [first, .., last] => Ok(vec![in alloc; copy(alloc, first)?, copy(alloc, last)?]?),
+    }
+}
+
+// Copies of the terms that say what a statement stands for, none where it is refused.
+fn needed(alloc: Global, terms: &[Term], verdict: &Verdict) -> Result<Vec<Term>, NoMemory>
+    ensures has { IfOk result (λ needed. (keyword : Option TokenKind) → HasTermsFor keyword (morphisms_of terms.now) verdict.now → HasTermsFor keyword (morphisms_of needed.items) verdict.now) }
+    ensures same { IfOk result (λ needed. (keyword : Option TokenKind) → sense_for keyword (morphisms_of needed.items) verdict.now ≡ sense_for keyword (morphisms_of terms.now) verdict.now) }
+{
+    match verdict {
+        Verdict::Accepted | Verdict::Proved => ends(alloc, terms),
+        _ => Ok(Vec::new(alloc)),
+    }
+}
+
+// The first of some terms.
+fn first(terms: Vec<Term>) -> Term
+    requires { 0 < length terms.items }
+    ensures { morphism_of result ≡ first_of (morphisms_of terms.items) }
+{
+    match terms.into_iter().next() {
+        Some(first) => first,
+        None => unreachable!(),
+    }
+}
+
 // What a generator stands for.
-fn generator(term: &Term) -> Result<Meaning, NoMemory>
-    requires { IsGenerator (morphism_of term.now) }
-    ensures { IfOk result (λ meaning. sense_of meaning ≡ generator_sense (morphism_of term.now)) }
+fn generator(term: Term) -> Meaning
+    requires { IsGenerator (morphism_of term) }
+    ensures { sense_of result ≡ generator_sense (morphism_of term) }
 {
     match term {
-        Term::Gen { name, dom, cod } => {
-            let shape = Shape {
-                dom: dom.share()?,
-                cod: cod.share()?,
-            };
-            Ok(Meaning::Generator(name.share()?, shape))
-        }
+        Term::Gen { name, dom, cod } => Meaning::Generator(name, Shape { dom, cod }),
         Term::Perm { .. } | Term::Seq(..) | Term::Par(..) => unreachable!(),
     }
 }
 
-// The equation of the first and the last of some terms.
-fn equation(alloc: Global, terms: &[Term]) -> Result<Equation, NoMemory>
-    requires { 0 < length terms.now }
-    ensures { IfOk result (λ equation. equation_of equation ≡ (first_of (morphisms_of terms.now), last_of (morphisms_of terms.now))) }
+// The equation of the first and the last of some terms. A single term is copied, since it is both.
+fn equation(alloc: Global, mut terms: Vec<Term>) -> Result<Equation, NoMemory>
+    requires { 0 < length terms.items }
+    ensures { IfOk result (λ equation. equation_of equation ≡ (first_of (morphisms_of terms.items), last_of (morphisms_of terms.items))) }
 {
-    Ok(Equation {
-        left: copy(alloc, &terms[0])?,
-        right: copy(alloc, &terms[terms.len() - 1])?,
-    })
+    let Some(right) = terms.pop() else {
+        unreachable!()
+    };
+    let left = match terms.into_iter().next() {
+        Some(left) => left,
+        None => copy(alloc, &right)?,
+    };
+    Ok(Equation { left, right })
 }
 
 // What an accepted statement with these terms stands for.
-fn accepted(alloc: Global, keyword: Option<TokenKind>, terms: &[Term]) -> Result<Meaning, NoMemory>
-    requires some { 0 < length terms.now }
-    requires generator { keyword ≡ Some WordGen → IsGenerator (first_of (morphisms_of terms.now)) }
-    ensures { IfOk result (λ meaning. sense_of meaning ≡ accepted_sense keyword (morphisms_of terms.now)) }
+fn accepted(
+    alloc: Global,
+    keyword: Option<TokenKind>,
+    terms: Vec<Term>,
+) -> Result<Meaning, NoMemory>
+    requires some { 0 < length terms.items }
+    requires generator { keyword ≡ Some WordGen → IsGenerator (first_of (morphisms_of terms.items)) }
+    ensures { IfOk result (λ meaning. sense_of meaning ≡ accepted_sense keyword (morphisms_of terms.items)) }
 {
     match keyword {
-        Some(TokenKind::WordGen) => generator(&terms[0]),
-        Some(TokenKind::WordLet) => Ok(Meaning::Abbrev(copy(alloc, &terms[0])?)),
+        Some(TokenKind::WordGen) => Ok(generator(first(terms))),
+        Some(TokenKind::WordLet) => Ok(Meaning::Abbrev(first(terms))),
         _ => Ok(Meaning::Law(equation(alloc, terms)?)),
     }
 }
@@ -90,11 +143,11 @@ fn refused(keyword: Option<TokenKind>) -> Meaning
 fn meaning(
     alloc: Global,
     keyword: Option<TokenKind>,
-    terms: &[Term],
+    terms: Vec<Term>,
     verdict: &Verdict,
 ) -> Result<Meaning, NoMemory>
-    requires { HasTermsFor keyword (morphisms_of terms.now) verdict.now }
-    ensures { IfOk result (λ meaning. sense_of meaning ≡ sense_for keyword (morphisms_of terms.now) verdict.now) }
+    requires { HasTermsFor keyword (morphisms_of terms.items) verdict.now }
+    ensures { IfOk result (λ meaning. sense_of meaning ≡ sense_for keyword (morphisms_of terms.items) verdict.now) }
 {
     match verdict {
         Verdict::Accepted => accepted(alloc, keyword, terms),
@@ -112,6 +165,46 @@ fn spelled(alloc: Global, bytes: &[u8]) -> Result<Name, NoMemory>
         Ok(text) => Name::new(alloc, text),
         Err(_) => unreachable!(),
     }
+}
+
+// The name that a statement binds, None where it binds nothing.
+fn unbound<'a>(text: &'a [u8], tokens: &[Token], env: &Env) -> Option<&'a [u8]>
+    requires { AreSpans (length text.now) tokens.now }
+    ensures name { IfSome result (λ name. declared_name text.entry.now tokens.now ≡ Some name.now) }
+    ensures free { IfSome result (λ name. is_bound env.now name.now ≡ false) }
+    ensures none { IfNone result ((home : List ℕ) (number : ℕ) (verdict : Verdict) → Binds (record { home = home; text = text.entry.now; env = env.now; tokens = tokens.now }) number verdict env.now) }
+{
+    let name = declared_name(text, tokens)?;
+    match env.lookup(name) {
+        Some(_) => None,
+        None => Some(name),
+    }
+}
+
+// Binds a name that is not bound yet.
+fn bind_name(
+    env: &mut Env,
+    module: &Name,
+    index: u32,
+    name: &[u8],
+    meaning: Meaning,
+) -> Result<(), NoMemory>
+    requires free { is_bound env.old name.now ≡ false }
+    requires spelled { IsUtf8 name.now }
+    requires sound { IsSoundSense (sense_of meaning) }
+    ensures ok { OnOk result (env.new ≡ env.old ++ record { name = name.now; origin = («module».now, index); sense = sense_of meaning } ∷ []) }
+    ensures err { OnErr result (env.new ≡ env.old) }
+{
+    let name = spelled(env.allocator(), name)?;
+    let origin = Origin {
+        module: module.share()?,
+        index,
+    };
+    env.insert(Entry {
+        name,
+        origin,
+        meaning,
+    })
 }
 
 /// Binds the name of a statement that has this number in the module of this name, once it has its
@@ -140,28 +233,40 @@ pub fn bind(
     ensures ok { OnOk result (Binds (site_of «module».now chunk.now env.old) index verdict.now env.new) }
     ensures err { OnErr result (env.new ≡ env.old) }
 {
-    let Some(name) = declared_name(chunk.first, chunk.tokens) else {
+    let Some(name) = unbound(chunk.first, chunk.tokens, env) else {
         return Ok(());
     };
-    if env.lookup(name).is_some() {
-        return Ok(());
-    }
     let alloc = env.allocator();
-    let meaning = meaning(alloc, keyword(chunk.tokens), terms(body), verdict)?;
-    let known = known_of(alloc, &meaning)?;
-    let key = Vec::from_slice(alloc, name)?;
-    let origin = Origin {
-        module: module.share()?,
-        index,
+    let terms = needed(alloc, terms(body), verdict)?;
+    let meaning = meaning(alloc, keyword(chunk.tokens), terms, verdict)?;
+    bind_name(env, module, index, name, meaning)
+}
+
+/// Binds the name of a statement as [`bind`] does, and moves the terms of its body into the environment
+/// in place of copying them.
+///
+/// # Errors
+///
+/// `NoMemory` where the binding can't be kept; nothing is bound then, and the body is dropped.
+pub fn bind_owned(
+    env: &mut Env,
+    module: &Name,
+    index: u32,
+    chunk: &ChunkView<'_>,
+    body: Option<Body>,
+    verdict: &Verdict,
+) -> Result<(), NoMemory>
+    requires lent { IsLent chunk.now }
+    requires outcome { IsOutcome (site_of «module».now chunk.now env.old) body verdict.now }
+    requires typed { IfSome body (λ body. AreTypedAlike (morphisms_of body.terms)) }
+    ensures ok { OnOk result (Binds (site_of «module».now chunk.now env.old) index verdict.now env.new) }
+    ensures err { OnErr result (env.new ≡ env.old) }
+{
+    let Some(name) = unbound(chunk.first, chunk.tokens, env) else {
+        return Ok(());
     };
-    let name = spelled(alloc, name)?;
-    env.insert(
-        key,
-        Entry {
-            name,
-            origin,
-            meaning,
-        },
-        known,
-    )
+    let alloc = env.allocator();
+    let terms = into_terms(alloc, body);
+    let meaning = meaning(alloc, keyword(chunk.tokens), terms, verdict)?;
+    bind_name(env, module, index, name, meaning)
 }

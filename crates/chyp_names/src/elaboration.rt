@@ -1,25 +1,25 @@
 // What a statement means, or why it is refused.
 ghost use Rattle.std.specs.Prelude.{◌≡◌, ℕ, List, [], false, IfOk, IfSome, IfNone, OnOk, Err, None, is_none};
 ghost use Rattle.std.specs.List.{list_any};
-ghost use Rattle.chyp_base.specs.Sort.{plain as the_plain};
 ghost use Rattle.chyp_base.specs.declared.verdict.Verdict.{Verdict};
 ghost use Rattle.chyp_syntax.specs.Sentence.{IsSentence};
 ghost use Rattle.chyp_syntax.specs.Statement.{statement_of};
 ghost use Rattle.chyp_term.specs.Term.{morphisms_of};
-ghost use Rattle.chyp_names.specs.ChunkView.{IsLent, site_of};
+ghost use Rattle.chyp_env.specs.ChunkView.{IsLent, site_of};
+ghost use Rattle.chyp_env.specs.PlainWires.{ArePlain};
+ghost use Rattle.chyp_env.specs.Site.{is_declared};
 ghost use Rattle.chyp_names.specs.Elaboration.{IsBody, IsRefused, Passes, has_hole, is_import};
 ghost use Rattle.chyp_names.specs.Naming.{first_fault};
-ghost use Rattle.chyp_names.specs.Site.{is_declared};
-ghost use Rattle.chyp_names.specs.Sound.{AreTypedAlike};
+ghost use Rattle.chyp_names.specs.Typing.{AreTypedAlike};
 
 use crate::agreement::types_agree;
 use crate::limits::is_small;
 use crate::naming::{first_fault, first_unproved};
 use crate::steps::steps;
 use crate::terms::terms;
-use crate::typing::TypeFault;
-use crate::{Body, ChunkView, ElabError, Env};
-use chyp_base::{Name, NoMemory, Sort, Verdict};
+use crate::{Body, ElabError};
+use chyp_base::{Name, NoMemory, Verdict};
+use chyp_env::{ChunkView, Env, PlainWires, TypeFault};
 use chyp_syntax::{Ast, StepAst, declared_name};
 use std::alloc::Global;
 
@@ -66,7 +66,7 @@ fn any_hole(steps: &[StepAst]) -> bool
     steps.iter().any(|step| step.goal.is_none())
 }
 
-// Whether the last step of a rewrite is a hole.
+// Whether a step of a rewrite is a hole.
 fn has_hole(ast: &Ast) -> bool
     ensures { result ≡ has_hole (statement_of ast.now) }
 {
@@ -79,14 +79,14 @@ fn has_hole(ast: &Ast) -> bool
 // The body of a statement that nothing refuses.
 fn body(
     alloc: Global,
-    plain: &Sort,
+    plain: &PlainWires,
     module: &Name,
     ast: &Ast,
     chunk: &ChunkView<'_>,
     env: &Env,
 ) -> Result<Body, NoMemory>
     requires lent { IsLent chunk.now }
-    requires plain { plain.now ≡ the_plain }
+    requires plain { ArePlain plain.now }
     requires sentence { IsSentence chunk.now.tokens.now (statement_of ast.now) }
     requires passes { Passes (site_of «module».now chunk.now env.now) (statement_of ast.now) }
     ensures { IfOk result (IsBody (site_of «module».now chunk.now env.now) (statement_of ast.now)) }
@@ -96,6 +96,43 @@ fn body(
         steps: steps(alloc, ast, chunk, env)?,
         hole: has_hole(ast),
     })
+}
+
+// What a statement means, where its terms share these plain wires.
+fn elaborate_with(
+    alloc: Global,
+    plain: &PlainWires,
+    module: &Name,
+    ast: &Ast,
+    chunk: &ChunkView<'_>,
+    env: &Env,
+) -> Result<Body, ElabError>
+    requires sentence { IsSentence chunk.now.tokens.now (statement_of ast.now) }
+    requires lent { IsLent chunk.now }
+    requires plain { ArePlain plain.now }
+    ensures passes { OnOk result (Passes (site_of «module».now chunk.now env.now) (statement_of ast.now)) }
+    ensures body { IfOk result (IsBody (site_of «module».now chunk.now env.now) (statement_of ast.now)) }
+    ensures typed { IfOk result (λ body. AreTypedAlike (morphisms_of body.terms)) }
+    ensures refused { (verdict : Verdict) → result ≡ Err (ElabError.Refused verdict) →
+        IsRefused (site_of «module».now chunk.now env.now) (statement_of ast.now) verdict }
+{
+    if let Some(verdict) = refused_by_names(ast, chunk, env) {
+        return Err(ElabError::Refused(verdict));
+    }
+    if !is_small(ast, chunk, env) {
+        return Err(ElabError::Refused(Verdict::TooBig));
+    }
+    match types_agree(alloc, plain, ast, chunk, env) {
+        Ok(()) => {}
+        Err(TypeFault::Fails { token }) => {
+            return Err(ElabError::Refused(Verdict::Mistyped { token }));
+        }
+        Err(TypeFault::NoMemory) => return Err(ElabError::NoMemory),
+    }
+    if let Some(token) = first_unproved(ast, chunk, env) {
+        return Err(ElabError::Refused(Verdict::Unproved { token }));
+    }
+    Ok(body(alloc, plain, module, ast, chunk, env)?)
 }
 
 /// What a statement means behind statements that have made this environment, in the module of this
@@ -125,22 +162,11 @@ pub fn elaborate(
     ensures refused { (verdict : Verdict) → result ≡ Err (ElabError.Refused verdict) →
         IsRefused (site_of «module».now chunk.now env.now) (statement_of ast.now) verdict }
 {
-    if let Some(verdict) = refused_by_names(ast, chunk, env) {
-        return Err(ElabError::Refused(verdict));
-    }
-    if !is_small(alloc, ast, chunk, env)? {
-        return Err(ElabError::Refused(Verdict::TooBig));
-    }
-    let plain = Sort::plain(alloc)?;
-    match types_agree(alloc, &plain, ast, chunk, env) {
-        Ok(()) => {}
-        Err(TypeFault::Fails { token }) => {
-            return Err(ElabError::Refused(Verdict::Mistyped { token }));
+    match env.plain() {
+        Some(plain) => elaborate_with(alloc, plain, module, ast, chunk, env),
+        None => {
+            let plain = PlainWires::new(alloc)?;
+            elaborate_with(alloc, &plain, module, ast, chunk, env)
         }
-        Err(TypeFault::NoMemory) => return Err(ElabError::NoMemory),
     }
-    if let Some(token) = first_unproved(ast, chunk, env) {
-        return Err(ElabError::Refused(Verdict::Unproved { token }));
-    }
-    Ok(body(alloc, &plain, module, ast, chunk, env)?)
 }

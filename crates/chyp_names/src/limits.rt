@@ -1,21 +1,18 @@
 // Whether the terms of a statement are small enough.
-ghost use Rattle.std.specs.Prelude.{◌≡◌, ◌↔◌, ◌≤◌, ℕ, List, [], ◌∷◌, IfOk, IsTrue};
+ghost use Rattle.std.specs.Prelude.{◌≡◌, ◌↔◌, ◌≤◌, ℕ, List, [], ◌∷◌, IsTrue};
 ghost use Rattle.chyp_syntax.specs.Statement.{statement_of};
 ghost use Rattle.chyp_syntax.specs.Term.{tree_of};
-ghost use Rattle.chyp_names.specs.ChunkView.{IsLent, site_of};
+ghost use Rattle.chyp_env.specs.ChunkView.{IsLent, site_of};
 ghost use Rattle.chyp_names.specs.Elaboration.{expansion_at, terms_of};
 ghost use Rattle.chyp_names.specs.Goals.{IsSum, goal_terms};
 ghost use Rattle.chyp_term.specs.Measure.{size_of};
 ghost use Rattle.chyp_term.specs.Morphism.{Morphism};
-ghost use Rattle.chyp_names.specs.Known.{AreSizes};
-ghost use Rattle.chyp_names.specs.Limits.{AreWithinLimits, IsWithinLimits, most_together};
+ghost use Rattle.chyp_env.specs.Known.{AreSizes};
+ghost use Rattle.chyp_env.specs.Limits.{IsWithinLimits};
+ghost use Rattle.chyp_names.specs.Limits.{AreWithinLimits, most_together};
 
-use crate::known::Sizes;
-use crate::sizes::sizes_of;
-use crate::{ChunkView, Env};
-use chyp_base::NoMemory;
+use chyp_env::{ChunkView, Env, Sizes, sizes_of};
 use chyp_syntax::{Ast, StepAst, TermAst};
-use std::alloc::Global;
 
 const MOST_PORTS: u64 = 64;
 
@@ -36,126 +33,91 @@ fn is_within_limits(sizes: Sizes) -> bool
 }
 
 // The size of a term with that of those before it, None where it doesn't fit behind them.
-fn sum_with(
-    alloc: Global,
-    before: u64,
-    tree: &TermAst,
-    chunk: &ChunkView<'_>,
-    env: &Env,
-) -> Result<Option<u64>, NoMemory>
+fn sum_with(before: u64, tree: &TermAst, chunk: &ChunkView<'_>, env: &Env) -> Option<u64>
     requires lent { IsLent chunk.now }
     requires before { before ≤ most_together }
-    ensures { IfOk result (λ sum. IsSum before (expansion_at (site_of [] chunk.now env.now) (tree_of tree.now) ∷ []) sum) }
+    ensures { IsSum before (expansion_at (site_of [] chunk.now env.now) (tree_of tree.now) ∷ []) result }
 {
-    let sizes = sizes_of(alloc, tree, chunk, env)?;
+    let sizes = sizes_of(tree, chunk, env);
     if !is_within_limits(sizes) {
-        return Ok(None);
+        return None;
     }
     let sum = before + sizes.size;
     if sum > MOST_TOGETHER {
-        return Ok(None);
+        return None;
     }
-    Ok(Some(sum))
+    Some(sum)
 }
 
 // The size of the goal of a step, if it has one, with that of the terms before it.
-fn sum_with_goal(
-    alloc: Global,
-    before: u64,
-    step: &StepAst,
-    chunk: &ChunkView<'_>,
-    env: &Env,
-) -> Result<Option<u64>, NoMemory>
+fn sum_with_goal(before: u64, step: &StepAst, chunk: &ChunkView<'_>, env: &Env) -> Option<u64>
     requires lent { IsLent chunk.now }
     requires before { before ≤ most_together }
-    ensures { IfOk result (λ sum. IsSum before (goal_terms (site_of [] chunk.now env.now) (step.now ∷ [])) sum) }
+    ensures { IsSum before (goal_terms (site_of [] chunk.now env.now) (step.now ∷ [])) result }
 {
     match &step.goal {
-        Some(goal) => sum_with(alloc, before, goal, chunk, env),
-        None => Ok(Some(before)),
+        Some(goal) => sum_with(before, goal, chunk, env),
+        None => Some(before),
     }
 }
 
 // The size of the goals of some steps with that of the terms before them, None where they don't fit.
-fn sum_with_goals(
-    alloc: Global,
-    before: u64,
-    steps: &[StepAst],
-    chunk: &ChunkView<'_>,
-    env: &Env,
-) -> Result<Option<u64>, NoMemory>
+fn sum_with_goals(before: u64, steps: &[StepAst], chunk: &ChunkView<'_>, env: &Env) -> Option<u64>
     requires lent { IsLent chunk.now }
     requires before { before ≤ most_together }
-    ensures { IfOk result (λ sum. IsSum before (goal_terms (site_of [] chunk.now env.now) steps.now) sum) }
+    ensures { IsSum before (goal_terms (site_of [] chunk.now env.now) steps.now) result }
 {
     let mut sum = before;
     for step in steps {
-        let Some(more) = sum_with_goal(alloc, sum, step, chunk, env)? else {
-            return Ok(None);
+        let Some(more) = sum_with_goal(sum, step, chunk, env) else {
+            return None;
         };
         sum = more;
     }
-    Ok(Some(sum))
+    Some(sum)
 }
 
 // The size of two terms together, None where they don't fit.
-fn sum_of_two(
-    alloc: Global,
-    left: &TermAst,
-    right: &TermAst,
-    chunk: &ChunkView<'_>,
-    env: &Env,
-) -> Result<Option<u64>, NoMemory>
+fn sum_of_two(left: &TermAst, right: &TermAst, chunk: &ChunkView<'_>, env: &Env) -> Option<u64>
     requires { IsLent chunk.now }
-    ensures { IfOk result (λ sum. IsSum 0
-        (expansion_at (site_of [] chunk.now env.now) (tree_of left.now) ∷ expansion_at (site_of [] chunk.now env.now) (tree_of right.now) ∷ []) sum) }
+    ensures { IsSum 0
+        (expansion_at (site_of [] chunk.now env.now) (tree_of left.now) ∷ expansion_at (site_of [] chunk.now env.now) (tree_of right.now) ∷ []) result }
 {
-    match sum_with(alloc, 0, left, chunk, env)? {
-        Some(sum) => sum_with(alloc, sum, right, chunk, env),
-        None => Ok(None),
+    match sum_with(0, left, chunk, env) {
+        Some(sum) => sum_with(sum, right, chunk, env),
+        None => None,
     }
 }
 
 // The size of the terms of a rewrite together, None where they don't fit.
 fn sum_of_rewrite(
-    alloc: Global,
     first: &TermAst,
     steps: &[StepAst],
     chunk: &ChunkView<'_>,
     env: &Env,
-) -> Result<Option<u64>, NoMemory>
+) -> Option<u64>
     requires { IsLent chunk.now }
-    ensures { IfOk result (λ sum. IsSum 0
-        (expansion_at (site_of [] chunk.now env.now) (tree_of first.now) ∷ goal_terms (site_of [] chunk.now env.now) steps.now) sum) }
+    ensures { IsSum 0
+        (expansion_at (site_of [] chunk.now env.now) (tree_of first.now) ∷ goal_terms (site_of [] chunk.now env.now) steps.now) result }
 {
-    match sum_with(alloc, 0, first, chunk, env)? {
-        Some(sum) => sum_with_goals(alloc, sum, steps, chunk, env),
-        None => Ok(None),
+    match sum_with(0, first, chunk, env) {
+        Some(sum) => sum_with_goals(sum, steps, chunk, env),
+        None => None,
     }
 }
 
 /// Whether a statement is within the limits. None of its terms is made.
-///
-/// # Errors
-///
-/// `NoMemory` where the measures of a term can't be kept.
-pub(crate) fn is_small(
-    alloc: Global,
-    ast: &Ast,
-    chunk: &ChunkView<'_>,
-    env: &Env,
-) -> Result<bool, NoMemory>
+pub(crate) fn is_small(ast: &Ast, chunk: &ChunkView<'_>, env: &Env) -> bool
     requires { IsLent chunk.now }
-    ensures { (home : List ℕ) → IfOk result (λ small. IsTrue small ↔ AreWithinLimits (statement_of ast.now) (terms_of (site_of home chunk.now env.now) (statement_of ast.now))) }
+    ensures { (home : List ℕ) → IsTrue result ↔ AreWithinLimits (statement_of ast.now) (terms_of (site_of home chunk.now env.now) (statement_of ast.now)) }
 {
-    let sum = match ast {
-        Ast::GenDecl { dom, cod, .. } => return Ok(*dom <= MOST_PORTS && *cod <= MOST_PORTS),
-        Ast::LetDecl { term, .. } => sum_with(alloc, 0, term, chunk, env)?,
-        Ast::RuleDecl { left, right, .. } => sum_of_two(alloc, left, right, chunk, env)?,
+    match ast {
+        Ast::GenDecl { dom, cod, .. } => *dom <= MOST_PORTS && *cod <= MOST_PORTS,
+        Ast::LetDecl { term, .. } => sum_with(0, term, chunk, env).is_some(),
+        Ast::RuleDecl { left, right, .. } => sum_of_two(left, right, chunk, env).is_some(),
         Ast::RewriteDecl { first, steps, .. } => {
-            sum_of_rewrite(alloc, first, steps.as_slice(), chunk, env)?
+            sum_of_rewrite(first, steps.as_slice(), chunk, env).is_some()
         }
-        Ast::ImportDecl { .. } | Ast::ShowDecl { .. } => return Ok(true),
-    };
-    Ok(sum.is_some())
+        Ast::ImportDecl { .. } | Ast::ShowDecl { .. } => true,
+    }
 }

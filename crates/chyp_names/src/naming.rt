@@ -3,12 +3,12 @@ ghost use Rattle.std.specs.Prelude.{◌≡◌, ◌++◌, [], map, flat_map, opti
 ghost use Rattle.chyp_syntax.specs.Statement.{statement_of};
 ghost use Rattle.chyp_syntax.specs.Step.{step_of};
 ghost use Rattle.chyp_syntax.specs.Term.{tree_of};
-ghost use Rattle.chyp_names.specs.ChunkView.{IsLent, site_of};
+ghost use Rattle.chyp_env.specs.ChunkView.{IsLent, site_of};
 ghost use Rattle.chyp_names.specs.Faults.{first_fault_among, first_unproved_among};
 ghost use Rattle.chyp_names.specs.Naming.{in_term, in_reason, in_show, names_of_reason, uses_in, uses_in_goal, uses_in_step, uses_of, fault_of, unproved_use, first_fault, first_unproved};
 
-use crate::{ChunkView, Env, Meaning};
 use chyp_base::Verdict;
+use chyp_env::{ChunkView, Env, Meaning};
 use chyp_syntax::{Ast, ReasonAst, SignedAst, StepAst, TermAst, text_at};
 
 // What is wrong with a name in a term.

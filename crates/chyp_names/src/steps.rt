@@ -4,13 +4,13 @@ ghost use Rattle.chyp_syntax.specs.Statement.{statement_of};
 ghost use Rattle.chyp_syntax.specs.Step.{step_of};
 ghost use Rattle.chyp_term.specs.Equation.{equation_of, equations_of};
 ghost use Rattle.chyp_term.specs.Step.{reason_of, reasons_of};
-ghost use Rattle.chyp_names.specs.ChunkView.{IsLent, site_of};
+ghost use Rattle.chyp_env.specs.ChunkView.{IsLent, site_of};
 ghost use Rattle.chyp_names.specs.Elaboration.{equation_at, reason_at, steps_at};
 ghost use Rattle.chyp_names.specs.Laws.{IsLawAt, RestsOnLaws};
 ghost use Rattle.chyp_names.specs.Naming.{first_fault, first_unproved};
 
-use crate::{ChunkView, Env, Meaning};
 use chyp_base::NoMemory;
+use chyp_env::{ChunkView, Env, Meaning};
 use chyp_syntax::{Ast, ReasonAst, SignedAst, StepAst, text_at};
 use chyp_term::{Equation, Equations, Step, StepList, copy};
 use std::alloc::Global;

@@ -1,20 +1,20 @@
 // The terms of statements, made.
 ghost use Rattle.std.specs.Prelude.{◌≡◌, ◌≤◌, ◌++◌, [], ◌∷◌, All, IfOk, IsUtf8};
-ghost use Rattle.chyp_base.specs.Sort.{plain as the_plain};
 ghost use Rattle.chyp_syntax.specs.Sentence.{IsSentence};
 ghost use Rattle.chyp_syntax.specs.Statement.{statement_of};
 ghost use Rattle.chyp_term.specs.Morphism.{generator as a_generator};
 ghost use Rattle.chyp_term.specs.Term.{morphism_of, morphisms_of};
-ghost use Rattle.chyp_names.specs.ChunkView.{IsLent, site_of};
+ghost use Rattle.chyp_env.specs.ChunkView.{IsLent, site_of};
+ghost use Rattle.chyp_env.specs.Expansion.{plain_wires};
+ghost use Rattle.chyp_env.specs.Limits.{most_ports};
+ghost use Rattle.chyp_env.specs.PlainWires.{ArePlain};
+ghost use Rattle.chyp_env.specs.Typing.{AllHold};
 ghost use Rattle.chyp_names.specs.Elaboration.{generator_name, terms_of, tests_at};
-ghost use Rattle.chyp_names.specs.Expansion.{plain_wires};
 ghost use Rattle.chyp_names.specs.Goals.{GoalHolds, goal_terms};
-ghost use Rattle.chyp_names.specs.Limits.{HasFewPorts, most_ports};
-ghost use Rattle.chyp_names.specs.Typing.{AllHold};
+ghost use Rattle.chyp_names.specs.Limits.{HasFewPorts};
 
-use crate::expand::{expand, plain_wires};
-use crate::{ChunkView, Env};
-use chyp_base::{Name, NoMemory, Sort};
+use chyp_base::{Name, NoMemory};
+use chyp_env::{ChunkView, Env, PlainWires, expand};
 use chyp_syntax::{Ast, StepAst, text_at};
 use chyp_term::{Term, Terms};
 use std::alloc::Global;
@@ -36,28 +36,34 @@ fn generator_name(alloc: Global, module: &Name, identifier: &[u8]) -> Result<Nam
 }
 
 // The generator of this name, between so many plain wires.
-fn generator(alloc: Global, plain: &Sort, name: Name, dom: u64, cod: u64) -> Result<Term, NoMemory>
-    requires plain { plain.now ≡ the_plain }
+fn generator(
+    alloc: Global,
+    plain: &PlainWires,
+    name: Name,
+    dom: u64,
+    cod: u64,
+) -> Result<Term, NoMemory>
+    requires plain { ArePlain plain.now }
     requires dom { dom ≤ most_ports }
     requires cod { cod ≤ most_ports }
     ensures { IfOk result (λ term. morphism_of term ≡ a_generator name (plain_wires dom) (plain_wires cod)) }
 {
-    let dom = plain_wires(alloc, plain, dom as usize)?;
-    let cod = plain_wires(alloc, plain, cod as usize)?;
+    let dom = plain.wires(alloc, dom as usize)?;
+    let cod = plain.wires(alloc, cod as usize)?;
     Ok(Term::Gen { name, dom, cod })
 }
 
 // Terms, and behind them the goal of a step, if it has one.
 fn with_goal(
     alloc: Global,
-    plain: &Sort,
+    plain: &PlainWires,
     mut terms: Vec<Term>,
     step: &StepAst,
     chunk: &ChunkView<'_>,
     env: &Env,
 ) -> Result<Vec<Term>, NoMemory>
     requires lent { IsLent chunk.now }
-    requires plain { plain.now ≡ the_plain }
+    requires plain { ArePlain plain.now }
     requires holds { GoalHolds (site_of [] chunk.now env.now) step.now }
     ensures { IfOk result (λ all. morphisms_of all.items ≡ morphisms_of terms.items ++ goal_terms (site_of [] chunk.now env.now) (step.now ∷ [])) }
 {
@@ -70,14 +76,14 @@ fn with_goal(
 // A first term, and behind it the goals of steps.
 fn with_goals(
     alloc: Global,
-    plain: &Sort,
+    plain: &PlainWires,
     first: Term,
     steps: &[StepAst],
     chunk: &ChunkView<'_>,
     env: &Env,
 ) -> Result<Terms, NoMemory>
     requires lent { IsLent chunk.now }
-    requires plain { plain.now ≡ the_plain }
+    requires plain { ArePlain plain.now }
     requires hold { All (GoalHolds (site_of [] chunk.now env.now)) steps.now }
     ensures { IfOk result (λ terms. morphisms_of terms ≡ morphism_of first ∷ goal_terms (site_of [] chunk.now env.now) steps.now) }
 {
@@ -115,14 +121,14 @@ fn two(alloc: Global, left: Term, right: Term) -> Result<Terms, NoMemory>
 /// `NoMemory` where the terms can't be kept.
 pub(crate) fn terms(
     alloc: Global,
-    plain: &Sort,
+    plain: &PlainWires,
     module: &Name,
     ast: &Ast,
     chunk: &ChunkView<'_>,
     env: &Env,
 ) -> Result<Terms, NoMemory>
     requires lent { IsLent chunk.now }
-    requires plain { plain.now ≡ the_plain }
+    requires plain { ArePlain plain.now }
     requires sentence { IsSentence chunk.now.tokens.now (statement_of ast.now) }
     requires ports { HasFewPorts (statement_of ast.now) }
     requires hold { AllHold (tests_at (site_of [] chunk.now env.now) (statement_of ast.now)) }

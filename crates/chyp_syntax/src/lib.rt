@@ -36,6 +36,3 @@ pub use parser::parse;
 pub use statement::Ast;
 pub use step::{ReasonAst, SignedAst, SignedAsts, StepAst, StepAsts};
 pub use term::{Numbers, Spots, TermAst, TermAsts};
-
-#[cfg(test)]
-mod tests;

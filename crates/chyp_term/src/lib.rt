@@ -34,6 +34,3 @@ pub use step::Step;
 pub use step_list::StepList;
 pub use term::{Term, copy};
 pub use terms::Terms;
-
-#[cfg(test)]
-mod tests;

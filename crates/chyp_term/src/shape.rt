@@ -46,8 +46,8 @@ pub fn shape_of(alloc: Global, term: &Term) -> Result<Shape, ShapeError>
             let left = shape_of(alloc, left)?;
             let right = shape_of(alloc, right)?;
             Ok(Shape {
-                dom: joined(left.dom, right.dom)?,
-                cod: joined(left.cod, right.cod)?,
+                dom: left.dom.beside(&right.dom)?,
+                cod: left.cod.beside(&right.cod)?,
             })
         }
     }
@@ -99,13 +99,4 @@ fn sorts_at(alloc: Global, sorts: &[Sort], order: &[u32]) -> Result<Vec<Sort>, N
         taken.push(sorts[*place as usize].share()?)?;
     }
     Ok(taken)
-}
-
-/// The first sorts and then the others.
-fn joined(first: Sorts, others: Sorts) -> Result<Sorts, NoMemory>
-    ensures { IfOk result (λ all. all ≡ first ++ others) }
-{
-    let mut sorts = first.into_vec();
-    sorts.append(&mut others.into_vec())?;
-    Ok(Sorts::from_vec(sorts))
 }

@@ -1,12 +1,12 @@
 //! What the laws of symmetric monoidal categories prove, and what they can't: law functions, whose
 //! bodies are empty.
 //!
-//! `derivations_are_equations` says that terms which any equations derive are typed and have one
-//! type. `types_are_decided` says that a term has a type or has none. `wires_are_permutations` says, over all typed terms without generators, that each is a
-//! permutation of its domain and equals it by the laws, and that two are equal by the laws exactly
-//! where their domains and permutations are; `wires_are_decided` says so for two given terms.
-//! `proofs/` has more, for the crates above: terms are equal by the laws exactly where they run
-//! alike on wires of any names (`Soundness`, `Completeness`).
+//! `derivations_are_equations` says that terms which any equations derive are typed and have one type.
+//! `types_are_decided` says that a term has a type or has none. `wires_are_permutations` says, over all
+//! typed terms without generators, that each is a permutation of its domain and equals it by the laws,
+//! and that two are equal by the laws exactly where their domains and permutations are;
+//! `wires_are_decided` says so for two given terms. `proofs/` has more, for the crates above: terms are
+//! equal by the laws exactly where they run alike on wires of any names (`Soundness`, `Completeness`).
 #![tactic(auto)]
 
 ghost use Rattle.chyp_term.specs.Morphism.{IsTyped};

@@ -1,5 +1,5 @@
-use Rattle.chyp_names.proofs.Envs.{distinct-push}
-use Rattle.chyp_names.proofs.Failing.{tests-decided}
+use Rattle.chyp_env.proofs.Envs.{distinct-push}
+use Rattle.chyp_env.proofs.Failing.{tests-decided}
 use Rattle.chyp_check.proofs.Below.{conditions_decided, passing_typed}
 use Rattle.chyp_check.proofs.SomeVerdicts.{one_list_of_verdicts}
 use Rattle.chyp_check.proofs.laws.each_text_has_one_list_of_verdicts.Goals as goal

@@ -2,8 +2,8 @@ use Rattle.std.proofs.Common.{◌≡◌, refl, [], subst}
 use Rattle.std.proofs.lemmas.Bool.{both_ways}
 use Rattle.std.proofs.lemmas.Result.{err_from_is_err_and}
 use Rattle.chyp_syntax.specs.Term.{tree_of}
+use Rattle.chyp_env.specs.ChunkView.{site_of}
 use Rattle.chyp_names.specs.Agreement.{Disagrees}
-use Rattle.chyp_names.specs.ChunkView.{site_of}
 use Rattle.chyp_names.proofs.Alike.{fails_inside, fails_at_equals, agrees_there}
 use Rattle.chyp_names.proofs.agreement.agrees.Goals as goal
 

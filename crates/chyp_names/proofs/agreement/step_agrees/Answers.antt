@@ -1,7 +1,7 @@
 use Rattle.std.proofs.Common.{[], ◌∷◌}
 use Rattle.chyp_syntax.specs.Term.{tree_of}
+use Rattle.chyp_env.specs.ChunkView.{site_of}
 use Rattle.chyp_names.specs.Agreement.{Agrees, StepsAgree}
-use Rattle.chyp_names.specs.ChunkView.{site_of}
 use Rattle.chyp_names.proofs.Alike.{on_ok, one_agrees, one_disagrees}
 use Rattle.chyp_names.proofs.agreement.step_agrees.Goals as goal
 

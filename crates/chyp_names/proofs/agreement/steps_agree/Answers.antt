@@ -1,6 +1,6 @@
 use Rattle.std.proofs.Common.{[]}
 use Rattle.std.proofs.lemmas.Result.{err_from_is_err_and}
-use Rattle.chyp_names.specs.ChunkView.{site_of}
+use Rattle.chyp_env.specs.ChunkView.{site_of}
 use Rattle.chyp_names.proofs.Alike.{agree_more, agree_all, agree_fails}
 use Rattle.chyp_names.proofs.agreement.steps_agree.Goals as goal
 

@@ -2,11 +2,11 @@ use Rattle.std.proofs.Common.{ℕ, List, [], refl}
 use Rattle.std.proofs.lemmas.Result.{err_from_is_err_and}
 use Rattle.chyp_syntax.specs.Statement.{statement_of}
 use Rattle.chyp_syntax.specs.Term.{tree_of}
+use Rattle.chyp_env.specs.ChunkView.{site_of}
+use Rattle.chyp_env.specs.Typing.{AllHold}
 use Rattle.chyp_names.specs.Agreement.{Agrees, StepsAgree}
-use Rattle.chyp_names.specs.ChunkView.{site_of}
 use Rattle.chyp_names.specs.Elaboration.{terms_of, tests_at}
-use Rattle.chyp_names.specs.Sound.{AreTypedAlike}
-use Rattle.chyp_names.specs.Typing.{AllHold}
+use Rattle.chyp_names.specs.Typing.{AreTypedAlike}
 use Rattle.chyp_names.proofs.Alike.{on_ok, rule_holds, rule_alike, rule_fails_left, rule_fails_right, rewrite_holds, rewrite_alike, rewrite_fails_first, rewrite_fails_behind}
 use Rattle.chyp_names.proofs.agreement.types_agree.Goals as goal
 

@@ -1,6 +1,6 @@
 use Rattle.std.proofs.Common.{◌∙◌, sym}
 use Rattle.chyp_syntax.specs.Statement.{statement_of}
-use Rattle.chyp_names.specs.ChunkView.{site_of}
+use Rattle.chyp_env.specs.ChunkView.{site_of}
 use Rattle.chyp_names.specs.Elaboration.{declared, import_}
 use Rattle.chyp_names.proofs.Refusals.{refused_at_name}
 use Rattle.chyp_names.proofs.elaboration.refused_by_names.Goals as goal

@@ -1,5 +1,5 @@
 use Rattle.std.proofs.Common.{[], Some, take}
-use Rattle.chyp_names.specs.ChunkView.{site_of}
+use Rattle.chyp_env.specs.ChunkView.{site_of}
 use Rattle.chyp_names.specs.Goals.{IsSum, goal_terms}
 use Rattle.chyp_names.proofs.limits.sum_with_goals.Given as goal
 

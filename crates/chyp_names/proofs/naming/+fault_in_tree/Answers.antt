@@ -1,6 +1,6 @@
 use Rattle.std.proofs.Common.{◌≡◌, [], flat_map, ◌∙◌, ap}
 use Rattle.chyp_syntax.specs.declared.term.TermAst.{TermAst}
-use Rattle.chyp_names.specs.ChunkView.{site_of}
+use Rattle.chyp_env.specs.ChunkView.{site_of}
 use Rattle.chyp_names.specs.Faults.{first_fault_among}
 use Rattle.chyp_names.specs.Naming.{fault_of}
 use Rattle.chyp_names.proofs.Firsts.{stops, goes_on, ends}

@@ -1,7 +1,7 @@
 use Rattle.std.proofs.Common.{[], map, flat_map}
 use Rattle.chyp_syntax.specs.Step.{step_of}
 use Rattle.chyp_syntax.specs.Term.{tree_of}
-use Rattle.chyp_names.specs.ChunkView.{site_of}
+use Rattle.chyp_env.specs.ChunkView.{site_of}
 use Rattle.chyp_names.specs.Naming.{uses_in, uses_in_step, fault_of}
 use Rattle.chyp_names.proofs.Firsts.{first_wins, second_wins}
 use Rattle.chyp_names.proofs.naming.fault_in_rewrite.Goals as goal

@@ -1,5 +1,5 @@
 use Rattle.std.proofs.Common.{[], map, false, slice_index_or, ◌∙◌, sym}
-use Rattle.chyp_names.specs.ChunkView.{site_of}
+use Rattle.chyp_env.specs.ChunkView.{site_of}
 use Rattle.chyp_names.specs.Naming.{in_reason, fault_of}
 use Rattle.chyp_names.proofs.Firsts.{first_one, stops, goes_on, ends}
 use Rattle.chyp_names.proofs.Uses.{rule_uses, uses_of_rules}

@@ -1,5 +1,5 @@
 use Rattle.std.proofs.Common.{[]}
-use Rattle.chyp_names.specs.ChunkView.{site_of}
+use Rattle.chyp_env.specs.ChunkView.{site_of}
 use Rattle.chyp_names.specs.Naming.{fault_of}
 use Rattle.chyp_names.proofs.Firsts.{NoneYet}
 use Rattle.chyp_names.proofs.Uses.{rule_uses}

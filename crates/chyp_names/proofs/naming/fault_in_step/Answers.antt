@@ -1,8 +1,8 @@
 use Rattle.std.proofs.Common.{[], map, ap, option_map, ◌∙◌}
 use Rattle.chyp_syntax.specs.Step.{step_of}
 use Rattle.chyp_syntax.specs.Term.{tree_of}
+use Rattle.chyp_env.specs.ChunkView.{site_of}
 use Rattle.chyp_names.specs.Faults.{first_fault_among}
-use Rattle.chyp_names.specs.ChunkView.{site_of}
 use Rattle.chyp_names.specs.Naming.{in_reason, names_of_reason, uses_in_goal, fault_of}
 use Rattle.chyp_names.proofs.Firsts.{first_wins, second_wins}
 use Rattle.chyp_names.proofs.naming.fault_in_step.Goals as goal

@@ -1,7 +1,7 @@
 use Rattle.std.proofs.Common.{[], map, flat_map, ◌∙◌, ap}
 use Rattle.chyp_syntax.specs.declared.step.StepAst.{StepAst}
 use Rattle.chyp_syntax.specs.Step.{step_of}
-use Rattle.chyp_names.specs.ChunkView.{site_of}
+use Rattle.chyp_env.specs.ChunkView.{site_of}
 use Rattle.chyp_names.specs.Faults.{first_fault_among}
 use Rattle.chyp_names.specs.Naming.{uses_in_step, fault_of}
 use Rattle.chyp_names.proofs.Firsts.{stops, goes_on, ends}

@@ -1,6 +1,6 @@
 use Rattle.std.proofs.Common.{[]}
 use Rattle.chyp_syntax.specs.Term.{tree_of}
-use Rattle.chyp_names.specs.ChunkView.{site_of}
+use Rattle.chyp_env.specs.ChunkView.{site_of}
 use Rattle.chyp_names.specs.Naming.{uses_in, fault_of}
 use Rattle.chyp_names.proofs.Firsts.{first_wins, second_wins}
 use Rattle.chyp_names.proofs.naming.fault_in_two.Goals as goal

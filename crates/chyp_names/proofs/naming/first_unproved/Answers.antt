@@ -1,5 +1,5 @@
 use Rattle.std.proofs.Common.{[], ◌∙◌}
-use Rattle.chyp_names.specs.ChunkView.{site_of}
+use Rattle.chyp_env.specs.ChunkView.{site_of}
 use Rattle.chyp_names.proofs.Uses.{unproved_of_steps, unproved_elsewhere}
 use Rattle.chyp_names.proofs.naming.first_unproved.Goals as goal
 

@@ -1,6 +1,6 @@
 use Rattle.std.proofs.Common.{◌≡◌, [], map, take}
 use Rattle.chyp_term.specs.Equation.{equation_of}
-use Rattle.chyp_names.specs.ChunkView.{site_of}
+use Rattle.chyp_env.specs.ChunkView.{site_of}
 use Rattle.chyp_names.specs.Elaboration.{equation_at}
 use Rattle.chyp_names.proofs.steps.equations.Given as goal
 

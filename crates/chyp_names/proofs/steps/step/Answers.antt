@@ -1,5 +1,5 @@
 use Rattle.std.proofs.Common.{[]}
-use Rattle.chyp_names.specs.ChunkView.{site_of}
+use Rattle.chyp_env.specs.ChunkView.{site_of}
 use Rattle.chyp_names.proofs.Laws.{simp_laws}
 use Rattle.chyp_names.proofs.steps.step.Goals as goal
 

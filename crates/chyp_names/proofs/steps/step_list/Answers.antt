@@ -2,7 +2,7 @@ use Rattle.std.proofs.Common.{[], map, ◌∙◌, ap, sym, subst}
 use Rattle.std.proofs.lemmas.List.{take_all}
 use Rattle.chyp_syntax.specs.declared.step.StepAst.{StepAst}
 use Rattle.chyp_term.specs.Step.{reason_of}
-use Rattle.chyp_names.specs.ChunkView.{site_of}
+use Rattle.chyp_env.specs.ChunkView.{site_of}
 use Rattle.chyp_names.specs.Elaboration.{reason_at}
 use Rattle.chyp_names.specs.Laws.{RestsOnLaws}
 use Rattle.chyp_names.proofs.Laws.{reasons_of_steps}

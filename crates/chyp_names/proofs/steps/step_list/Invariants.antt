@@ -1,6 +1,6 @@
 use Rattle.std.proofs.Common.{◌≡◌, [], map, take}
 use Rattle.chyp_term.specs.Step.{reason_of}
-use Rattle.chyp_names.specs.ChunkView.{site_of}
+use Rattle.chyp_env.specs.ChunkView.{site_of}
 use Rattle.chyp_names.specs.Elaboration.{reason_at}
 use Rattle.chyp_names.proofs.steps.step_list.Given as goal
 

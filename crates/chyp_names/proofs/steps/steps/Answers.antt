@@ -1,5 +1,5 @@
 use Rattle.std.proofs.Common.{[]}
-use Rattle.chyp_names.specs.ChunkView.{site_of}
+use Rattle.chyp_env.specs.ChunkView.{site_of}
 use Rattle.chyp_names.proofs.Laws.{rewrite_laws}
 use Rattle.chyp_names.proofs.steps.steps.Goals as goal
 

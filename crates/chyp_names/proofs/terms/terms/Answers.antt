@@ -1,6 +1,6 @@
 use Rattle.std.proofs.Common.{[], subst, sym}
 use Rattle.std.specs.Str.{IsUtf8}
-use Rattle.chyp_names.specs.ChunkView.{site_of}
+use Rattle.chyp_env.specs.ChunkView.{site_of}
 use Rattle.chyp_names.proofs.Made.{name_spelled, left_holds, right_holds, first_holds, steps_hold}
 use Rattle.chyp_names.proofs.terms.terms.Goals as goal
 

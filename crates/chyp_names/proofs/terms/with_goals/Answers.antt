@@ -1,6 +1,6 @@
 use Rattle.std.proofs.Common.{[], map}
 use Rattle.chyp_term.specs.Term.{morphism_of}
-use Rattle.chyp_names.specs.ChunkView.{site_of}
+use Rattle.chyp_env.specs.ChunkView.{site_of}
 use Rattle.chyp_names.proofs.Made.{goals_more}
 use Rattle.chyp_names.proofs.terms.with_goals.Goals as goal
 

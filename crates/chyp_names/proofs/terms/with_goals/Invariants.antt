@@ -1,6 +1,6 @@
 use Rattle.std.proofs.Common.{◌≡◌, [], ◌∷◌, map, take}
 use Rattle.chyp_term.specs.Term.{morphism_of}
-use Rattle.chyp_names.specs.ChunkView.{site_of}
+use Rattle.chyp_env.specs.ChunkView.{site_of}
 use Rattle.chyp_names.specs.Goals.{goal_terms}
 use Rattle.chyp_names.proofs.terms.with_goals.Given as goal
 

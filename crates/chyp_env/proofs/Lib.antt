@@ -1,0 +1,9 @@
+pub mod Envs
+pub mod Failing
+pub mod Halves
+pub mod Holding
+pub mod Measures
+pub mod Nodes
+pub mod Rows
+pub mod Spelled
+pub mod Typed

@@ -1,0 +1,52 @@
+-- The term that a tree stands for, which has no limits.
+use Rattle.std.specs.Prelude.{ℕ, zero, suc, ◌/◌, List, [], ◌∷◌, length, take, drop, replicate, None, Some}
+use Rattle.chyp_base.specs.declared.sort.Sort.{Sort}
+use Rattle.chyp_base.specs.Sort.{plain}
+use Rattle.chyp_syntax.specs.Term.{TermTree, TermTrees, named, wire, empty as no_wire, swap, chain, beside as tensor, no_terms, term}
+use Rattle.chyp_env.specs.declared.expansion.Join.{Join}
+use Rattle.chyp_env.specs.declared.expansion.Join.TheVariants.{Then, Beside}
+use Rattle.chyp_term.specs.Morphism.{Morphism, permutation, then, beside}
+use Rattle.chyp_term.specs.Derivation.{empty}
+
+-- n plain wires
+abbrev pub plain_wires : ℕ → List Sort
+plain_wires n = replicate n plain
+
+-- the places are those of plain wires
+abbrev pub plain_permutation : List ℕ → Morphism
+plain_permutation places = permutation (plain_wires (length places)) places
+
+-- Parts in a row: the first half of them, rounded down, and then the rest, where both halves are made in the same way.
+-- `most` is at least the number of parts.
+abbrev pub halved_by : ℕ → (Morphism → Morphism → Morphism) → List Morphism → Morphism
+halved_by most join [] = empty
+halved_by most join (part ∷ []) = part
+halved_by zero join (part ∷ next ∷ parts) = empty
+halved_by (suc most) join (part ∷ next ∷ parts) =
+    let all = part ∷ next ∷ parts in
+    join (halved_by most join (take (length all / 2) all)) (halved_by most join (drop (length all / 2) all))
+
+abbrev pub halved : (Morphism → Morphism → Morphism) → List Morphism → Morphism
+halved join parts = halved_by (length parts) join parts
+
+-- the ways to join two terms
+abbrev pub join_of : Join → Morphism → Morphism → Morphism
+join_of Then = then
+join_of Beside = beside
+
+abbrev mutual
+  -- The term of a tree, where `meaning` is the term that a name stands for, by the number of its token: `id` is one wire,
+  -- `id0` none, `sw` crosses two or permutes as its places say, a chain composes its parts, and a tensor puts them side by side.
+  pub expansion_in : (ℕ → Morphism) → TermTree → Morphism
+  expansion_in meaning (named token) = meaning token
+  expansion_in meaning wire = plain_permutation (0 ∷ [])
+  expansion_in meaning no_wire = plain_permutation []
+  expansion_in meaning (swap token None) = plain_permutation (1 ∷ 0 ∷ [])
+  expansion_in meaning (swap token (Some places)) = plain_permutation places
+  expansion_in meaning (chain parts semis) = halved then (expansions_in meaning parts)
+  expansion_in meaning (tensor parts) = halved beside (expansions_in meaning parts)
+
+  -- the terms of some trees
+  pub expansions_in : (ℕ → Morphism) → TermTrees → List Morphism
+  expansions_in meaning no_terms = []
+  expansions_in meaning (term first rest) = expansion_in meaning first ∷ expansions_in meaning rest

@@ -1,0 +1,13 @@
+pub mod ChunkView
+pub mod Coded
+pub mod Entry
+pub mod Environment
+pub mod Expansion
+pub mod Kept
+pub mod Known
+pub mod Limits
+pub mod PlainWires
+pub mod Shape
+pub mod Site
+pub mod Sound
+pub mod Typing

@@ -1,0 +1,133 @@
+// What names stand for.
+ghost use Rattle.std.specs.Prelude.{◌≡◌, ℕ, [], ◌∷◌, ◌++◌, false, IfSome, IfNone, OnOk, OnErr, Some, None};
+ghost use Rattle.std.specs.Option.{option_map_or};
+ghost use Rattle.chyp_term.specs.Derivation.{empty};
+ghost use Rattle.chyp_env.specs.Entry.{entry_of, sense_of};
+ghost use Rattle.chyp_env.specs.Environment.{binding_of, is_bound};
+ghost use Rattle.chyp_env.specs.Known.{IsKnown};
+ghost use Rattle.chyp_env.specs.PlainWires.{ArePlain};
+ghost use Rattle.chyp_env.specs.Site.{term_of};
+ghost use Rattle.chyp_env.specs.Sound.{IsSound, IsSoundSense};
+
+use crate::known::{Known, known_of};
+use crate::{Entry, PlainWires};
+use chyp_base::NoMemory;
+use indexmap::IndexMap;
+use std::alloc::Global;
+use std::marker::Model;
+
+/// An entry, with what is known of the term that it stands for, if it stands for one.
+#[derive(Debug, Drop)]
+pub(crate) struct Kept {
+    pub(crate) entry: Entry,
+    pub(crate) known: Option<Known>,
+}
+
+/// What names stand for, in the order of binding, each name once. Contracts see it as the list of its
+/// bindings, of `specs/Environment.antt`, and it is always sound: terms are typed and within the limits
+/// on one term, laws are equations, and generators have few ports.
+#[derive(Drop)]
+pub struct Env {
+    entries: IndexMap<Vec<u8>, Kept>,
+    plain: Option<PlainWires>,
+}
+
+impl Model for Env {
+    ghost use Rattle.std.specs.Prelude.{List, map, All, IfSome};
+    ghost use Rattle.std.specs.Coded.{coded_list};
+    ghost use Rattle.chyp_env.specs.Coded.{binding_code};
+    ghost use Rattle.chyp_env.specs.Environment.{Binding};
+
+    ghost Value = { List Binding };
+
+    ghost coded = { coded_list binding_code };
+
+    ghost use Rattle.chyp_env.specs.Entry.{entry_of};
+    ghost use Rattle.chyp_env.specs.Kept.{IsKept};
+    ghost use Rattle.chyp_env.specs.PlainWires.{ArePlain};
+    ghost use Rattle.chyp_env.specs.Sound.{HasDistinctNames};
+
+    ghost view = { λ e. map (λ pair. entry_of pair.1.entry) e.entries.entries };
+
+    ghost invariant = { λ e. All (λ pair. IsKept pair.0.items pair.1) e.entries.entries × HasDistinctNames (map (λ pair. entry_of pair.1.entry) e.entries.entries) × IfSome e.plain ArePlain };
+}
+
+impl Env {
+    /// No name. It takes no memory.
+    pub fn new(alloc: Global) -> Env
+        ensures { result ≡ [] }
+    {
+        Env {
+            entries: IndexMap::new(alloc),
+            plain: None,
+        }
+    }
+
+    /// What the name stands for, None where it is not bound. It takes constant time on average,
+    /// and no memory.
+    pub fn lookup(&self, name: &[u8]) -> Option<&Entry>
+        ensures some { IfSome result (λ entry. binding_of self.now name.now ≡ Some (entry_of entry.now)) }
+        ensures none { IfNone result (binding_of self.now name.now ≡ None) }
+    {
+        let kept = self.entries.get(name)?;
+        Some(&kept.entry)
+    }
+
+    /// What is known of the term that the name stands for, None where it stands for none.
+    pub(crate) fn known(&self, name: &[u8]) -> Option<&Known>
+        ensures some { IfSome result (λ known. IsKnown known.now (option_map_or (λ b. term_of b.sense) (binding_of self.now name.now) empty)) }
+        ensures none { IfNone result (option_map_or (λ b. term_of b.sense) (binding_of self.now name.now) empty ≡ empty) }
+    {
+        let kept = self.entries.get(name)?;
+        kept.known.as_ref()
+    }
+
+    /// Every environment is sound.
+    pub fn sound(&self)
+        ensures { IsSound self.now }
+    {
+        let _ = &self.entries;
+    }
+
+    /// The plain wires that its terms share; None where no name is bound.
+    pub fn plain(&self) -> Option<&PlainWires>
+        ensures { IfSome result (λ plain. ArePlain plain.now) }
+    {
+        self.plain.as_ref()
+    }
+
+    /// Makes the plain wires, where they aren't there.
+    fn keep_plain(&mut self) -> Result<(), NoMemory>
+        ensures { self.new ≡ self.old }
+    {
+        if self.plain.is_none() {
+            self.plain = Some(PlainWires::new(self.allocator())?);
+        }
+        Ok(())
+    }
+
+    /// The allocator that it was made with.
+    pub fn allocator(&self) -> Global {
+        *self.entries.allocator()
+    }
+
+    /// Binds the name of an entry, which is not bound yet. What is known of its term is found by
+    /// recursion as deep as the term.
+    ///
+    /// # Errors
+    ///
+    /// `NoMemory` where the entry, or what is known of it, can't be kept; nothing is bound then.
+    pub fn insert(&mut self, entry: Entry) -> Result<(), NoMemory>
+        requires fresh { is_bound self.old entry.name ≡ false }
+        requires sound { IsSoundSense (sense_of entry.meaning) }
+        ensures ok { OnOk result (self.new ≡ self.old ++ entry_of entry ∷ []) }
+        ensures err { OnErr result (self.new ≡ self.old) }
+    {
+        self.keep_plain()?;
+        let alloc = self.allocator();
+        let known = known_of(alloc, &entry.meaning)?;
+        let name = Vec::from_slice(alloc, entry.name.as_str().as_bytes())?;
+        self.entries.insert(name, Kept { entry, known })?;
+        Ok(())
+    }
+}

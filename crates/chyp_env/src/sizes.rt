@@ -1,0 +1,87 @@
+// How big the terms are that trees stand for.
+ghost use Rattle.std.specs.Prelude.{◌≡◌, ℕ, List, [], length, map};
+ghost use Rattle.chyp_base.specs.declared.sort.Sort.{Sort};
+ghost use Rattle.chyp_term.specs.Morphism.{Morphism, permutation};
+ghost use Rattle.chyp_syntax.specs.Term.{tree_of};
+ghost use Rattle.chyp_env.specs.ChunkView.{IsLent, site_of};
+ghost use Rattle.chyp_env.specs.Expansion.{expansion_in, halved, join_of};
+ghost use Rattle.chyp_env.specs.Known.{AreSizes};
+ghost use Rattle.chyp_env.specs.Site.{meaning_at};
+
+use crate::expansion::Join;
+use crate::known::Sizes;
+use crate::{ChunkView, Env};
+use chyp_syntax::{TermAst, text_at};
+
+/// The measures of the term that a tree stands for, which isn't made. It takes no memory, and goes by
+/// recursion as deep as that term.
+#[cycle(sizes)]
+pub fn sizes_of(tree: &TermAst, chunk: &ChunkView<'_>, env: &Env) -> Sizes
+    requires { IsLent chunk.now }
+    ensures { AreSizes result (expansion_in (meaning_at (site_of [] chunk.now env.now)) (tree_of tree.now)) }
+{
+    match tree {
+        TermAst::Named(token) => sizes_of_name(*token, chunk, env),
+        TermAst::Wire => sizes_of_permutation(1),
+        TermAst::Empty => sizes_of_permutation(0),
+        TermAst::Swap { places, .. } => match places {
+            Some(places) => sizes_of_permutation(places.len()),
+            None => sizes_of_permutation(2),
+        },
+        TermAst::Chain { parts, .. } => sizes_of_row(parts.as_slice(), chunk, env),
+        TermAst::Beside(parts) => sizes_of_row(parts.as_slice(), chunk, env),
+    }
+}
+
+// The measures of parts in a row, however they are joined: the first half of them, rounded down, and
+// then the rest.
+#[cycle(sizes)]
+fn sizes_of_row(parts: &[TermAst], chunk: &ChunkView<'_>, env: &Env) -> Sizes
+    requires { IsLent chunk.now }
+    ensures { (join : Join) → AreSizes result (halved (join_of join)
+        (map (λ part. expansion_in (meaning_at (site_of [] chunk.now env.now)) (tree_of part)) parts.now)) }
+{
+    match parts {
+        [] => sizes_of_permutation(0),
+        [part] => sizes_of(part, chunk, env),
+        _ => {
+            let half = parts.len() / 2;
+            let first = sizes_of_row(&parts[..half], chunk, env);
+            let rest = sizes_of_row(&parts[half..], chunk, env);
+            joined_sizes(first, rest)
+        }
+    }
+}
+
+// The measures of two joined terms with these measures.
+fn joined_sizes(first: Sizes, rest: Sizes) -> Sizes
+    ensures { (join : Join) (s t : Morphism) → AreSizes first s → AreSizes rest t → AreSizes result (join_of join s t) }
+{
+    Sizes {
+        size: first.size.saturating_add(rest.size).saturating_add(1),
+        depth: first.depth.max(rest.depth).saturating_add(1),
+        generators: first.generators.saturating_add(rest.generators),
+    }
+}
+
+// The measures of a permutation with so many places.
+fn sizes_of_permutation(count: usize) -> Sizes
+    ensures { (sorts : List Sort) (places : List ℕ) → length places ≡ count → AreSizes result (permutation sorts places) }
+{
+    Sizes {
+        size: (count as u64).saturating_add(1),
+        depth: 1,
+        generators: 0,
+    }
+}
+
+// The measures of the term that the name of this token stands for.
+fn sizes_of_name(token: u32, chunk: &ChunkView<'_>, env: &Env) -> Sizes
+    requires { IsLent chunk.now }
+    ensures { AreSizes result (meaning_at (site_of [] chunk.now env.now) token) }
+{
+    match env.known(text_at(chunk.first, chunk.tokens, token)) {
+        Some(known) => known.sizes,
+        None => sizes_of_permutation(0),
+    }
+}

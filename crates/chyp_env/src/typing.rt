@@ -1,0 +1,217 @@
+// The types of the terms that trees stand for.
+ghost use Rattle.std.specs.Prelude.{◌≡◌, ℕ, List, [], length, map, IfOk, IfErr, IsOk, Err, slice_index};
+ghost use Rattle.chyp_term.specs.Morphism.{dom, cod};
+ghost use Rattle.chyp_syntax.specs.Term.{tree_of, chain, beside as tensor, terms_of};
+ghost use Rattle.chyp_term.specs.Perm.{IsPermutation};
+ghost use Rattle.chyp_env.specs.ChunkView.{IsLent, site_of};
+ghost use Rattle.chyp_env.specs.Expansion.{expansion_in, plain_permutation};
+ghost use Rattle.chyp_env.specs.PlainWires.{ArePlain};
+ghost use Rattle.chyp_env.specs.Shape.{IsShape};
+ghost use Rattle.chyp_env.specs.Site.{meaning_at};
+ghost use Rattle.chyp_env.specs.Typing.{AllHold, FailsFirst, tests_of};
+
+use crate::expansion::narrowed;
+use crate::plain_wires::PlainWires;
+use crate::{ChunkView, Env};
+use chyp_base::{NoMemory, Sorts};
+use chyp_syntax::{TermAst, text_at};
+use chyp_term::{Perm, Places, Shape};
+use std::alloc::Global;
+
+/// Why a tree has no type.
+#[derive(Clone, Copy, Debug, PartialEq, Eq)]
+pub enum TypeFault {
+    /// The first test that fails is at this token.
+    Fails { token: u32 },
+    /// There was no memory for the type.
+    NoMemory,
+}
+
+impl From<NoMemory> for TypeFault {
+    ghost use Rattle.std.specs.Prelude.{◌≡◌};
+    ghost use Rattle.chyp_env.specs.declared.typing.TypeFault.{TypeFault};
+    ghost use Rattle.chyp_env.specs.declared.typing.TypeFault.TheVariants.{NoMemory};
+
+    ghost from_gives = { λ _ error. error ≡ NoMemory };
+
+    fn from(_: NoMemory) -> TypeFault {
+        TypeFault::NoMemory
+    }
+}
+
+/// The type of the term that a tree stands for, which isn't made. It goes by recursion as deep as the
+/// tree.
+///
+/// # Errors
+///
+/// `Fails` exactly where a test of the tree fails, with the token of the first such test: a `sw` whose
+/// places are no permutation, or a `;` in front of a part whose domain is not the codomain of the part
+/// before it. `NoMemory` where the lists of sorts can't be kept.
+#[cycle(shapes)]
+pub fn shape_of_tree(
+    alloc: Global,
+    plain: &PlainWires,
+    tree: &TermAst,
+    chunk: &ChunkView<'_>,
+    env: &Env,
+) -> Result<Shape, TypeFault>
+    requires lent { IsLent chunk.now }
+    requires plain { ArePlain plain.now }
+    ensures holds { IsOk result → AllHold (tests_of (meaning_at (site_of [] chunk.now env.now)) (tree_of tree.now)) }
+    ensures shape { IfOk result (λ shape.
+        IsShape shape (expansion_in (meaning_at (site_of [] chunk.now env.now)) (tree_of tree.now))) }
+    ensures fails { (token : ℕ) → result ≡ Err (TypeFault.Fails token) →
+        FailsFirst (tests_of (meaning_at (site_of [] chunk.now env.now)) (tree_of tree.now)) token }
+{
+    match tree {
+        TermAst::Named(token) => Ok(shape_of_name(alloc, *token, chunk, env)?),
+        TermAst::Wire => Ok(plain_shape(alloc, plain, 1)?),
+        TermAst::Empty => Ok(plain_shape(alloc, plain, 0)?),
+        TermAst::Swap { token, places } => match places {
+            Some(places) => shape_of_swap(alloc, plain, *token, places.as_slice()),
+            None => Ok(plain_shape(alloc, plain, 2)?),
+        },
+        TermAst::Chain { parts, semis } => {
+            shape_of_chain(alloc, plain, parts.as_slice(), semis.as_slice(), chunk, env)
+        }
+        TermAst::Beside(parts) => shape_of_tensor(alloc, plain, parts.as_slice(), chunk, env),
+    }
+}
+
+// The type of a chain of these parts, with these tokens of its `;`.
+#[cycle(shapes)]
+fn shape_of_chain(
+    alloc: Global,
+    plain: &PlainWires,
+    parts: &[TermAst],
+    semis: &[u32],
+    chunk: &ChunkView<'_>,
+    env: &Env,
+) -> Result<Shape, TypeFault>
+    requires lent { IsLent chunk.now }
+    requires plain { ArePlain plain.now }
+    ensures holds { IsOk result → AllHold (tests_of (meaning_at (site_of [] chunk.now env.now)) (chain (terms_of (map tree_of parts.now)) semis.now)) }
+    ensures shape { IfOk result (λ shape.
+        IsShape shape (expansion_in (meaning_at (site_of [] chunk.now env.now)) (chain (terms_of (map tree_of parts.now)) semis.now))) }
+    ensures fails { (token : ℕ) → result ≡ Err (TypeFault.Fails token) →
+        FailsFirst (tests_of (meaning_at (site_of [] chunk.now env.now)) (chain (terms_of (map tree_of parts.now)) semis.now)) token }
+{
+    let Some(first) = parts.first() else {
+        return Ok(plain_shape(alloc, plain, 0)?);
+    };
+    let mut shape = shape_of_tree(alloc, plain, first, chunk, env)?;
+    for i in 0..parts.len() - 1 {
+        let next = shape_of_tree(alloc, plain, &parts[i + 1], chunk, env)?;
+        let token = token_at(semis, i);
+        shape = composed(shape, next, token)?;
+    }
+    Ok(shape)
+}
+
+// The type of a tensor of these parts.
+#[cycle(shapes)]
+fn shape_of_tensor(
+    alloc: Global,
+    plain: &PlainWires,
+    parts: &[TermAst],
+    chunk: &ChunkView<'_>,
+    env: &Env,
+) -> Result<Shape, TypeFault>
+    requires lent { IsLent chunk.now }
+    requires plain { ArePlain plain.now }
+    ensures holds { IsOk result → AllHold (tests_of (meaning_at (site_of [] chunk.now env.now)) (tensor (terms_of (map tree_of parts.now)))) }
+    ensures shape { IfOk result (λ shape.
+        IsShape shape (expansion_in (meaning_at (site_of [] chunk.now env.now)) (tensor (terms_of (map tree_of parts.now))))) }
+    ensures fails { (token : ℕ) → result ≡ Err (TypeFault.Fails token) →
+        FailsFirst (tests_of (meaning_at (site_of [] chunk.now env.now)) (tensor (terms_of (map tree_of parts.now)))) token }
+{
+    let mut dom = Sorts::from_vec(Vec::new(alloc));
+    let mut cod = Sorts::from_vec(Vec::new(alloc));
+    for part in parts {
+        let shape = shape_of_tree(alloc, plain, part, chunk, env)?;
+        dom = dom.beside(&shape.dom)?;
+        cod = cod.beside(&shape.cod)?;
+    }
+    Ok(Shape { dom, cod })
+}
+
+// The token of this number, 0 where there is none.
+fn token_at(tokens: &[u32], number: usize) -> u32
+    ensures { result ≡ slice_index tokens.now number }
+{
+    match tokens.get(number) {
+        Some(token) => *token,
+        None => 0,
+    }
+}
+
+// The type of a term of the first type and then one of the next, at the `;` of this token.
+fn composed(first: Shape, next: Shape, token: u32) -> Result<Shape, TypeFault>
+    ensures meets { IsOk result → first.cod ≡ next.dom }
+    ensures dom { IfOk result (λ shape. shape.dom ≡ first.dom) }
+    ensures cod { IfOk result (λ shape. shape.cod ≡ next.cod) }
+    ensures fails { IfErr result (λ fault. (fault ≡ TypeFault.Fails token) × ¬ (first.cod ≡ next.dom)) }
+{
+    if first.cod == next.dom {
+        Ok(Shape {
+            dom: first.dom,
+            cod: next.cod,
+        })
+    } else {
+        Err(TypeFault::Fails { token })
+    }
+}
+
+// The type of a permutation of plain wires with the places that stand behind this token.
+fn shape_of_swap(
+    alloc: Global,
+    plain: &PlainWires,
+    token: u32,
+    places: &[u64],
+) -> Result<Shape, TypeFault>
+    requires { ArePlain plain.now }
+    ensures permutes { IsOk result → IsPermutation (length places.now) places.now }
+    ensures shape { IfOk result (λ shape. IsShape shape (plain_permutation places.now)) }
+    ensures fails { (at : ℕ) → result ≡ Err (TypeFault.Fails at) → (at ≡ token) × ¬ IsPermutation (length places.now) places.now }
+{
+    let Some(narrow) = narrowed(alloc, places)? else {
+        return Err(TypeFault::Fails { token });
+    };
+    if Perm::new(Places::from_vec(narrow)).is_none() {
+        return Err(TypeFault::Fails { token });
+    }
+    Ok(plain_shape(alloc, plain, places.len())?)
+}
+
+// The type of a permutation of so many plain wires.
+fn plain_shape(alloc: Global, plain: &PlainWires, count: usize) -> Result<Shape, NoMemory>
+    requires { ArePlain plain.now }
+    ensures { IfOk result (λ shape. (places : List ℕ) → length places ≡ count → IsPermutation (length places) places
+        → IsShape shape (plain_permutation places)) }
+{
+    let dom = plain.wires(alloc, count)?;
+    let cod = dom.share()?;
+    Ok(Shape { dom, cod })
+}
+
+// The type of the term that the name of this token stands for.
+fn shape_of_name(
+    alloc: Global,
+    token: u32,
+    chunk: &ChunkView<'_>,
+    env: &Env,
+) -> Result<Shape, NoMemory>
+    requires { IsLent chunk.now }
+    ensures { IfOk result (λ shape. IsShape shape (meaning_at (site_of [] chunk.now env.now) token)) }
+{
+    match env.known(text_at(chunk.first, chunk.tokens, token)) {
+        Some(known) => Ok(Shape {
+            dom: known.shape.dom.share()?,
+            cod: known.shape.cod.share()?,
+        }),
+        None => Ok(Shape {
+            dom: Sorts::from_vec(Vec::new(alloc)),
+            cod: Sorts::from_vec(Vec::new(alloc)),
+        }),
+    }
+}

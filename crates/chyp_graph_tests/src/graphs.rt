@@ -1,0 +1,134 @@
+ghost use Rattle.std.specs.Prelude.{◌≡◌, [], ◌∷◌, IfOk, length, ◌<◌};
+ghost use Rattle.chyp_base.specs.Sort.{plain};
+ghost use Rattle.chyp_graph.specs.PlainGraph.{input_sorts, output_sorts};
+
+use crate::diagrams::{both, chain, crossed, named, one, through, two};
+use chyp_base::Sort;
+use chyp_graph::{EdgeId, EdgeIds, EdgeParts, Graph, WireId, WireIds};
+use std::alloc::Global;
+use std::test::Fail;
+
+/// An edge by its name, its source and its target.
+type Line<'a> = (&'a str, u32, u32);
+
+/// Fails unless the edge has this name, and this one source and target.
+fn check_edge(graph: &Graph, k: EdgeId, line: Line) -> Result<(), Fail>
+    requires { k < length graph.now.edges }
+{
+    let edge = graph.edge(k);
+    let named = edge.name.as_str() == line.0;
+    let from = edge.sources == [WireId(line.1)].as_slice();
+    let to = edge.targets == [WireId(line.2)].as_slice();
+    if named && from && to {
+        return Ok(());
+    }
+    Err(Fail::new("another edge"))
+}
+
+/// Fails unless the graph has four wires, these two edges, and these ends.
+fn check(graph: &Graph, lines: [Line; 2], inputs: [u32; 2], outputs: [u32; 2]) -> Result<(), Fail> {
+    if graph.edge_count() != 2 || graph.wire_count() != 4 {
+        return Err(Fail::new("another size"));
+    }
+    check_edge(graph, EdgeId(0), lines[0])?;
+    check_edge(graph, EdgeId(1), lines[1])?;
+    let starts = graph.inputs() == [WireId(inputs[0]), WireId(inputs[1])].as_slice();
+    let ends = graph.outputs() == [WireId(outputs[0]), WireId(outputs[1])].as_slice();
+    if starts && ends {
+        return Ok(());
+    }
+    Err(Fail::new("other ends"))
+}
+
+#[test]
+fn terms_have_their_graphs(rt: HostRuntime) -> Result<(), Fail> {
+    let alloc = rt.alloc();
+    let pair = both(alloc, through(alloc, "f")?, through(alloc, "g")?)?;
+    let term = chain(alloc, pair, crossed(alloc)?)?;
+    let graph = Graph::of_term(alloc, &term)?;
+    check(&graph, [("f", 0, 1), ("g", 2, 3)], [0, 2], [3, 1])?;
+    let pair = both(alloc, through(alloc, "g")?, through(alloc, "f")?)?;
+    let term = chain(alloc, crossed(alloc)?, pair)?;
+    let graph = Graph::of_term(alloc, &term)?;
+    check(&graph, [("g", 1, 2), ("f", 0, 3)], [0, 1], [2, 3])
+}
+
+#[test]
+fn graphs_stand_beside_each_other(rt: HostRuntime) -> Result<(), Fail> {
+    let alloc = rt.alloc();
+    let first = through(alloc, "f")?;
+    let first = Graph::of_term(alloc, &first)?;
+    let second = through(alloc, "g")?;
+    let second = Graph::of_term(alloc, &second)?;
+    let graph = first.beside(&second)?;
+    check(&graph, [("f", 0, 1), ("g", 2, 3)], [0, 2], [1, 3])
+}
+
+/// The graph of f * g.
+fn pair(alloc: Global) -> Result<Graph, Fail>
+    ensures sorts { IfOk result (λ graph. output_sorts graph ≡ plain ∷ plain ∷ []) }
+    ensures size { IfOk result (λ graph. (length graph.wires ≡ 4) × (length graph.edges ≡ 2)) }
+{
+    let term = both(alloc, through(alloc, "f")?, through(alloc, "g")?)?;
+    Ok(Graph::of_term(alloc, &term)?)
+}
+
+/// The graph of two wires that cross.
+fn cross(alloc: Global) -> Result<Graph, Fail>
+    ensures sorts { IfOk result (λ graph. input_sorts graph ≡ plain ∷ plain ∷ []) }
+    ensures size { IfOk result (λ graph. (length graph.wires ≡ 2) × (length graph.edges ≡ 0)) }
+{
+    let term = crossed(alloc)?;
+    Ok(Graph::of_term(alloc, &term)?)
+}
+
+#[test]
+fn graphs_follow_each_other(rt: HostRuntime) -> Result<(), Fail> {
+    let alloc = rt.alloc();
+    let graph = pair(alloc)?.then(&cross(alloc)?)?;
+    check(&graph, [("f", 0, 1), ("g", 2, 3)], [0, 2], [3, 1])
+}
+
+#[test]
+fn wires_have_their_ends(rt: HostRuntime) -> Result<(), Fail> {
+    let alloc = rt.alloc();
+    let term = through(alloc, "f")?;
+    let graph = Graph::of_term(alloc, &term)?;
+    if graph.wire_count() != 2 {
+        return Err(Fail::new("another size"));
+    }
+    assert!(rt; *graph.wire_sort(WireId(1)) == Sort::plain(alloc)?);
+    assert!(rt; graph.producer(WireId(0)).is_none());
+    assert!(rt; matches!(graph.producer(WireId(1)), Some((EdgeId(0), 0))));
+    assert!(rt; matches!(graph.consumer(WireId(0)), Some((EdgeId(0), 0))));
+    assert!(rt; graph.consumer(WireId(1)).is_none());
+    Ok(())
+}
+
+#[test]
+fn lists_make_a_graph(rt: HostRuntime) -> Result<(), Fail> {
+    let alloc = rt.alloc();
+    let ends = WireIds::from_vec(vec![in alloc; WireId(1), WireId(0)]?);
+    assert_eq!(rt; ends.as_slice().len(), 2);
+    let starts = WireIds::from_vec(vec![in alloc; WireId(0), WireId(1)]?);
+    let edges = EdgeParts::from_vec(Vec::new(alloc));
+    assert_eq!(rt; edges.as_slice().len(), 0);
+    let graph = Graph::of_parts(two(alloc)?, edges, starts, ends)?;
+    assert_eq!(rt; graph.outputs(), [WireId(1), WireId(0)].as_slice());
+    let ids = EdgeIds::from_vec(vec![in alloc; EdgeId(7)]?);
+    assert_eq!(rt; ids.as_slice(), [EdgeId(7)].as_slice());
+    assert_eq!(rt; ids.into_vec().len(), 1);
+    Ok(())
+}
+
+#[test]
+fn edges_have_their_rounds(rt: HostRuntime) -> Result<(), Fail> {
+    let alloc = rt.alloc();
+    let pair = both(alloc, through(alloc, "u")?, through(alloc, "u")?)?;
+    let merge = named(alloc, "m", two(alloc)?, one(alloc)?)?;
+    let term = chain(alloc, pair, merge)?;
+    let graph = Graph::of_term(alloc, &term)?;
+    let rounds = graph.rounds()?;
+    assert_eq!(rt; rounds.as_slice(), [1, 1, 2].as_slice());
+    Ok(())
+}

@@ -1,0 +1,19 @@
+//! Tests of the crates about terms and graphs: `chyp_term`, `chyp_graph`, `chyp_iso`, `chyp_laws` and
+//! `chyp_judge`, with a module for each, and the small terms that they share in `diagrams`.
+//!
+//! They have a crate of their own, as a crate with tests is proved twice, with them and without. It has
+//! no other code.
+#![tactic(auto)]
+
+#[cfg(test)]
+mod diagrams;
+#[cfg(test)]
+mod graphs;
+#[cfg(test)]
+mod isomorphism;
+#[cfg(test)]
+mod judging;
+#[cfg(test)]
+mod laws;
+#[cfg(test)]
+mod terms;

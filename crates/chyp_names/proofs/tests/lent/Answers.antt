@@ -1,8 +1,0 @@
-use Rattle.std.proofs.Common.{refl, arith}
-use Rattle.chyp_names.proofs.Spelled.{spelled}
-use Rattle.chyp_names.proofs.tests.lent.Goals as goal
-
-pub returns : goal.returns
-returns c =
-    let short = c.requires.short in
-    record { spans = c.requires.spans; one_piece = refl; short = omega arith; spelled = spelled c.args.text.now c.args.tokens.now c.requires.tokens }

@@ -1,0 +1,13 @@
+//! The tests of the crates that lead from a text to the terms of its statements.
+//!
+//! A crate with tests is proved twice, with them and without, so these crates have theirs here.
+//! `tokens` tests `chyp_lex`, `trees` tests `chyp_syntax`, and `statements` tests `chyp_names`, and
+//! through it the calls of `chyp_env`.
+#![tactic(auto)]
+
+#[cfg(test)]
+mod statements;
+#[cfg(test)]
+mod tokens;
+#[cfg(test)]
+mod trees;

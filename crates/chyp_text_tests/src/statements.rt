@@ -1,0 +1,161 @@
+// Each public call once, with ample memory.
+ghost use Rattle.std.specs.Prelude.{◌≡◌, ◌≤◌, ◌↔◌, [], length, IfOk, IsTrue, Some};
+ghost use Rattle.chyp_base.specs.declared.verdict.Verdict.TheVariants.{Accepted};
+ghost use Rattle.chyp_term.specs.Term.{morphisms_of};
+ghost use Rattle.chyp_lex.specs.Tokens.{AreSpans, AreTokens};
+ghost use Rattle.chyp_syntax.specs.Sentence.{IsSentence};
+ghost use Rattle.chyp_syntax.specs.Statement.{statement_of};
+ghost use Rattle.chyp_env.specs.ChunkView.{IsLent, site_of};
+ghost use Rattle.chyp_names.specs.Binding.{Elaborates, IsOutcome, IsRewrite};
+ghost use Rattle.chyp_names.specs.Typing.{AreTypedAlike};
+
+use chyp_base::{Name, Verdict};
+use chyp_lex::{Token, TokenKind, lex};
+use chyp_names::{Body, ChunkView, ElabError, Env, Meaning, bind, bind_owned, elaborate};
+use chyp_syntax::{Ast, parse};
+use std::alloc::Global;
+use std::test::Fail;
+
+fn tokens_of(alloc: Global, text: &[u8]) -> Result<Vec<Token>, Fail>
+    requires { length text.now ≤ 1000 }
+    ensures tokens { IfOk result (λ tokens. AreTokens text.now tokens.items) }
+    ensures spans { IfOk result (λ tokens. AreSpans (length text.now) tokens.items) }
+{
+    match lex(alloc, text, &[]) {
+        Ok(tokens) => Ok(tokens),
+        Err(_) => Err(Fail::new("no memory for the tokens")),
+    }
+}
+
+fn lent<'a>(text: &'a [u8], tokens: &'a [Token]) -> ChunkView<'a>
+    requires short { length text.now ≤ 1000 }
+    requires tokens { AreTokens text.now tokens.now }
+    requires spans { AreSpans (length text.now) tokens.now }
+    ensures { IsLent result }
+{
+    ChunkView {
+        tokens,
+        first: text,
+        second: &[],
+    }
+}
+
+fn tree_of(alloc: Global, tokens: &[Token]) -> Result<Ast, Fail>
+    ensures { IfOk result (λ ast. IsSentence tokens.now (statement_of ast)) }
+{
+    if tokens.len() > 1000 {
+        return Err(Fail::new("a long statement"));
+    }
+    match parse(alloc, tokens) {
+        Ok(ast) => Ok(ast),
+        Err(_) => Err(Fail::new("no sentence")),
+    }
+}
+
+// What the statement means.
+fn meant(alloc: Global, env: &Env, chunk: &ChunkView<'_>) -> Result<Body, Fail>
+    requires { IsLent chunk.now }
+    ensures body { IfOk result (Elaborates (site_of [] chunk.now env.now)) }
+    ensures typed { IfOk result (λ body. AreTypedAlike (morphisms_of body.terms)) }
+{
+    let main = Name::new(alloc, "")?;
+    let ast = tree_of(alloc, chunk.tokens)?;
+    match elaborate(alloc, &main, &ast, chunk, env) {
+        Ok(body) => Ok(body),
+        Err(_) => Err(Fail::new("refused")),
+    }
+}
+
+// The verdict that refuses the statement.
+fn refusal(alloc: Global, env: &Env, chunk: &ChunkView<'_>) -> Result<Verdict, Fail>
+    requires { IsLent chunk.now }
+{
+    let main = Name::new(alloc, "")?;
+    let ast = tree_of(alloc, chunk.tokens)?;
+    match elaborate(alloc, &main, &ast, chunk, env) {
+        Err(ElabError::Refused(verdict)) => Ok(verdict),
+        _ => Err(Fail::new("not refused")),
+    }
+}
+
+// What a statement means that is accepted.
+fn accepted(alloc: Global, env: &Env, chunk: &ChunkView<'_>) -> Result<Body, Fail>
+    requires { IsLent chunk.now }
+    ensures outcome { IfOk result (λ body. IsOutcome (site_of [] chunk.now env.now) (Some body) Accepted) }
+    ensures typed { IfOk result (λ body. AreTypedAlike (morphisms_of body.terms)) }
+{
+    if is_rewrite(chunk.tokens) {
+        return Err(Fail::new("a rewrite"));
+    }
+    meant(alloc, env, chunk)
+}
+
+// Binds the name of a statement that is accepted.
+fn accept(alloc: Global, env: &mut Env, text: &[u8]) -> Result<(), Fail>
+    requires { length text.now ≤ 1000 }
+{
+    let tokens = tokens_of(alloc, text)?;
+    let chunk = lent(text, &tokens);
+    let body = accepted(alloc, env, &chunk)?;
+    let main = Name::new(alloc, "")?;
+    bind(env, &main, 0, &chunk, Some(&body), &Verdict::Accepted)?;
+    Ok(())
+}
+
+// Does so too, and hands its body over.
+fn accept_owned(alloc: Global, env: &mut Env, text: &[u8]) -> Result<(), Fail>
+    requires { length text.now ≤ 1000 }
+{
+    let tokens = tokens_of(alloc, text)?;
+    let chunk = lent(text, &tokens);
+    let body = accepted(alloc, env, &chunk)?;
+    let main = Name::new(alloc, "")?;
+    bind_owned(env, &main, 0, &chunk, Some(body), &Verdict::Accepted)?;
+    Ok(())
+}
+
+fn is_rewrite(tokens: &[Token]) -> bool
+    ensures { IsTrue result ↔ IsRewrite tokens.now }
+{
+    match tokens.first() {
+        Some(token) => token.kind == TokenKind::WordRewrite,
+        None => false,
+    }
+}
+
+#[test]
+fn a_name_that_is_not_bound_refuses_the_statement(rt: HostRuntime) -> Result<(), Fail> {
+    let alloc = rt.alloc();
+    let text = b"let x = zz".as_slice();
+    let mut env = Env::new(alloc);
+    let tokens = tokens_of(alloc, text)?;
+    let chunk = lent(text, &tokens);
+    let verdict = refusal(alloc, &env, &chunk)?;
+    assert_eq!(rt; verdict, Verdict::Unknown { token: 3 });
+    let main = Name::new(alloc, "")?;
+    let verdict = Verdict::Unknown { token: 3 };
+    bind(&mut env, &main, 0, &chunk, None, &verdict)?;
+    env.sound();
+    match env.lookup(b"x") {
+        Some(entry) => assert!(rt; matches!(entry.meaning, Meaning::Broken)),
+        None => return Err(Fail::new("x is not bound")),
+    }
+    Ok(())
+}
+
+#[test]
+fn a_rewrite_uses_what_is_bound(rt: HostRuntime) -> Result<(), Fail> {
+    let alloc = rt.alloc();
+    let mut env = Env::new(alloc);
+    accept(alloc, &mut env, b"gen m : 2 -> 1")?;
+    accept(alloc, &mut env, b"let left = m * id ; m")?;
+    accept_owned(alloc, &mut env, b"rule assoc : left = id * m ; m")?;
+    let text = b"rewrite w : left = m * id ; m = id * m ; m by assoc = ? by -assoc".as_slice();
+    let tokens = tokens_of(alloc, text)?;
+    let chunk = lent(text, &tokens);
+    let body = meant(alloc, &env, &chunk)?;
+    assert_eq!(rt; body.terms.as_slice().len(), 3);
+    assert_eq!(rt; body.steps.as_slice().len(), 3);
+    assert!(rt; body.hole);
+    Ok(())
+}
