@@ -1,34 +1,28 @@
-// Small terms, over plain wires.
-ghost use Rattle.std.specs.Prelude.{◌≡◌, [], ◌∷◌, IfOk};
-ghost use Rattle.chyp_base.specs.Sort.{plain};
-ghost use Rattle.chyp_term.specs.Morphism.{beside, generator, permutation, then};
+// Small terms, over plain wires, by words.
+ghost use Rattle.std.specs.Prelude.{◌≡◌, ◌≤◌, [], IfOk, IsTrue};
+ghost use Rattle.chyp_term.specs.Measure.{size_of};
+ghost use Rattle.chyp_term.specs.Morphism.{IsTyped};
 ghost use Rattle.chyp_term.specs.Term.{morphism_of};
 
 use chyp_base::{Name, NoMemory, Sort, Sorts};
-use chyp_term::{Perm, Places, Term};
+use chyp_graph::Graph;
+use chyp_term::{Perm, Places, Term, shape_of, size};
 use std::alloc::Global;
 use std::test::Fail;
 
+/// No wires.
 pub(crate) fn none(alloc: Global) -> Sorts
     ensures { result ≡ [] }
 {
     Sorts::from_vec(Vec::new(alloc))
 }
 
-pub(crate) fn one(alloc: Global) -> Result<Sorts, NoMemory>
-    ensures { IfOk result (λ sorts. sorts ≡ plain ∷ []) }
-{
+/// So many plain wires.
+pub(crate) fn wires(alloc: Global, count: u32) -> Result<Sorts, NoMemory> {
     let mut sorts = Vec::new(alloc);
-    sorts.push(Sort::plain(alloc)?)?;
-    Ok(Sorts::from_vec(sorts))
-}
-
-pub(crate) fn two(alloc: Global) -> Result<Sorts, NoMemory>
-    ensures { IfOk result (λ sorts. sorts ≡ plain ∷ plain ∷ []) }
-{
-    let mut sorts = Vec::new(alloc);
-    sorts.push(Sort::plain(alloc)?)?;
-    sorts.push(Sort::plain(alloc)?)?;
+    for _ in 0..count {
+        sorts.push(Sort::plain(alloc)?)?;
+    }
     Ok(Sorts::from_vec(sorts))
 }
 
@@ -43,54 +37,105 @@ pub(crate) fn permuted(alloc: Global, places: &[u32]) -> Result<Perm, Fail>
     }
 }
 
-/// A generator.
-pub(crate) fn named(alloc: Global, name: &str, dom: Sorts, cod: Sorts) -> Result<Term, NoMemory>
-    ensures { IfOk result (λ term. morphism_of term ≡ generator name.now dom cod) }
-{
-    Ok(Term::Gen {
-        name: Name::new(alloc, name)?,
-        dom,
-        cod,
-    })
+/// A permutation of so many wires, which it is typed for only where it has as many places.
+pub(crate) fn rewired(alloc: Global, count: u32, places: &[u32]) -> Result<Term, Fail> {
+    let sorts = wires(alloc, count)?;
+    let perm = permuted(alloc, places)?;
+    Ok(Term::Perm { sorts, perm })
 }
 
-/// A generator from one wire to one.
-pub(crate) fn through(alloc: Global, name: &str) -> Result<Term, NoMemory>
-    ensures { IfOk result (λ term. morphism_of term ≡ generator name.now (plain ∷ []) (plain ∷ [])) }
-{
-    named(alloc, name, one(alloc)?, one(alloc)?)
+/// A generator with so many wires in and out.
+fn named(alloc: Global, name: &str, dom: u32, cod: u32) -> Result<Term, Fail> {
+    let name = Name::new(alloc, name)?;
+    let dom = wires(alloc, dom)?;
+    let cod = wires(alloc, cod)?;
+    Ok(Term::Gen { name, dom, cod })
 }
 
-/// Two wires that cross.
-pub(crate) fn crossed(alloc: Global) -> Result<Term, Fail>
-    ensures { IfOk result (λ term. morphism_of term ≡ permutation (plain ∷ plain ∷ []) (1 ∷ 0 ∷ [])) }
-{
-    Ok(Term::Perm {
-        sorts: two(alloc)?,
-        perm: permuted(alloc, &[1, 0])?,
-    })
+/// How many wires go into the generator of this name, and how many come out.
+fn ports(name: &str) -> (u32, u32) {
+    match name {
+        "m" => (2, 1),
+        "u" => (0, 1),
+        "v" | "w" => (1, 0),
+        "s" | "t" => (0, 0),
+        _ => (1, 1),
+    }
 }
 
-/// Two wires side by side.
-pub(crate) fn straight(alloc: Global) -> Result<Term, Fail>
-    ensures { IfOk result (λ term. morphism_of term ≡ permutation (plain ∷ plain ∷ []) (0 ∷ 1 ∷ [])) }
-{
-    Ok(Term::Perm {
-        sorts: two(alloc)?,
-        perm: permuted(alloc, &[0, 1])?,
-    })
+/// The diagram that a word names: wires that cross, or that don't, or else a generator.
+fn named_by(alloc: Global, word: &str) -> Result<Term, Fail> {
+    match word {
+        "sw" => rewired(alloc, 2, &[1, 0]),
+        "id2" => rewired(alloc, 2, &[0, 1]),
+        _ => {
+            let (dom, cod) = ports(word);
+            named(alloc, word, dom, cod)
+        }
+    }
 }
 
-/// One term beside another.
-pub(crate) fn both(alloc: Global, first: Term, second: Term) -> Result<Term, Fail>
-    ensures { IfOk result (λ term. morphism_of term ≡ beside (morphism_of first) (morphism_of second)) }
-{
-    Ok(Term::Par(Box::new(alloc, first)?, Box::new(alloc, second)?))
+/// Takes the last two terms, and puts the one behind or beside the other in their place.
+fn join(alloc: Global, terms: &mut Vec<Term>, behind: bool) -> Result<(), Fail> {
+    let Some(second) = terms.pop() else {
+        return Err(Fail::new("no term to join"));
+    };
+    let second = Box::new(alloc, second)?;
+    let Some(first) = terms.pop() else {
+        return Err(Fail::new("one term to join"));
+    };
+    let first = Box::new(alloc, first)?;
+    let joined = if behind {
+        Term::Seq(first, second)
+    } else {
+        Term::Par(first, second)
+    };
+    Ok(terms.push(joined)?)
 }
 
-/// One term and then another.
-pub(crate) fn chain(alloc: Global, first: Term, second: Term) -> Result<Term, Fail>
-    ensures { IfOk result (λ term. morphism_of term ≡ then (morphism_of first) (morphism_of second)) }
+/// Does what a word says: `;` and `*` join the last two terms, and any other word adds a diagram.
+fn take(alloc: Global, terms: &mut Vec<Term>, word: &str) -> Result<(), Fail> {
+    match word {
+        ";" => join(alloc, terms, true),
+        "*" => join(alloc, terms, false),
+        _ => Ok(terms.push(named_by(alloc, word)?)?),
+    }
+}
+
+/// The term of these words, each `;` and `*` behind the two terms that it joins.
+pub(crate) fn term(alloc: Global, words: &str) -> Result<Term, Fail> {
+    let mut terms = Vec::new(alloc);
+    for word in words.split_whitespace() {
+        take(alloc, &mut terms, word)?;
+    }
+    match terms.pop() {
+        Some(term) => Ok(term),
+        None => Err(Fail::new("no words")),
+    }
+}
+
+/// Whether a term is typed and small.
+fn is_good(alloc: Global, term: &Term) -> bool
+    ensures typed { IsTrue result → IsTyped (morphism_of term.now) }
+    ensures small { IsTrue result → size_of (morphism_of term.now) ≤ 200000 }
 {
-    Ok(Term::Seq(Box::new(alloc, first)?, Box::new(alloc, second)?))
+    size(term) <= 200000 && shape_of(alloc, term).is_ok()
+}
+
+/// The term of these words, which is typed and small.
+pub(crate) fn typed(alloc: Global, words: &str) -> Result<Term, Fail>
+    ensures typed { IfOk result (λ term. IsTyped (morphism_of term)) }
+    ensures small { IfOk result (λ term. size_of (morphism_of term) ≤ 200000) }
+{
+    let term = term(alloc, words)?;
+    if is_good(alloc, &term) {
+        return Ok(term);
+    }
+    Err(Fail::new("no small typed term"))
+}
+
+/// The graph of the term of these words.
+pub(crate) fn graph(alloc: Global, words: &str) -> Result<Graph, Fail> {
+    let term = typed(alloc, words)?;
+    Ok(Graph::of_term(alloc, &term)?)
 }

@@ -1,10 +1,13 @@
 ghost use Rattle.std.specs.Prelude.{◌≡◌, [], ◌∷◌, IfOk, length, ◌<◌};
 ghost use Rattle.chyp_base.specs.Sort.{plain};
+ghost use Rattle.chyp_term.specs.Morphism.{beside, generator, permutation};
+ghost use Rattle.chyp_term.specs.Term.{morphism_of};
 ghost use Rattle.chyp_graph.specs.PlainGraph.{input_sorts, output_sorts};
 
-use crate::diagrams::{both, chain, crossed, named, one, through, two};
-use chyp_base::Sort;
+use crate::diagrams::{graph, permuted};
+use chyp_base::{Name, NoMemory, Sort, Sorts};
 use chyp_graph::{EdgeId, EdgeIds, EdgeParts, Graph, WireId, WireIds};
+use chyp_term::Term;
 use std::alloc::Global;
 use std::test::Fail;
 
@@ -43,25 +46,70 @@ fn check(graph: &Graph, lines: [Line; 2], inputs: [u32; 2], outputs: [u32; 2]) -
 #[test]
 fn terms_have_their_graphs(rt: HostRuntime) -> Result<(), Fail> {
     let alloc = rt.alloc();
-    let pair = both(alloc, through(alloc, "f")?, through(alloc, "g")?)?;
-    let term = chain(alloc, pair, crossed(alloc)?)?;
-    let graph = Graph::of_term(alloc, &term)?;
-    check(&graph, [("f", 0, 1), ("g", 2, 3)], [0, 2], [3, 1])?;
-    let pair = both(alloc, through(alloc, "g")?, through(alloc, "f")?)?;
-    let term = chain(alloc, crossed(alloc)?, pair)?;
-    let graph = Graph::of_term(alloc, &term)?;
-    check(&graph, [("g", 1, 2), ("f", 0, 3)], [0, 1], [2, 3])
+    let crossed = graph(alloc, "f g * sw ;")?;
+    check(&crossed, [("f", 0, 1), ("g", 2, 3)], [0, 2], [3, 1])?;
+    let crossed = graph(alloc, "sw g f * ;")?;
+    check(&crossed, [("g", 1, 2), ("f", 0, 3)], [0, 1], [2, 3])
 }
 
 #[test]
 fn graphs_stand_beside_each_other(rt: HostRuntime) -> Result<(), Fail> {
     let alloc = rt.alloc();
-    let first = through(alloc, "f")?;
-    let first = Graph::of_term(alloc, &first)?;
-    let second = through(alloc, "g")?;
-    let second = Graph::of_term(alloc, &second)?;
-    let graph = first.beside(&second)?;
-    check(&graph, [("f", 0, 1), ("g", 2, 3)], [0, 2], [1, 3])
+    let first = graph(alloc, "f")?;
+    let second = graph(alloc, "g")?;
+    if first.wire_count().max(second.wire_count()) > 9 {
+        return Err(Fail::new("more wires than nine"));
+    }
+    if first.edge_count().max(second.edge_count()) > 9 {
+        return Err(Fail::new("more edges than nine"));
+    }
+    let both = first.beside(&second)?;
+    check(&both, [("f", 0, 1), ("g", 2, 3)], [0, 2], [1, 3])
+}
+
+/// A plain wire.
+fn one(alloc: Global) -> Result<Sorts, NoMemory>
+    ensures { IfOk result (λ sorts. sorts ≡ plain ∷ []) }
+{
+    let mut sorts = Vec::new(alloc);
+    sorts.push(Sort::plain(alloc)?)?;
+    Ok(Sorts::from_vec(sorts))
+}
+
+/// Two plain wires.
+fn two(alloc: Global) -> Result<Sorts, NoMemory>
+    ensures { IfOk result (λ sorts. sorts ≡ plain ∷ plain ∷ []) }
+{
+    let mut sorts = Vec::new(alloc);
+    sorts.push(Sort::plain(alloc)?)?;
+    sorts.push(Sort::plain(alloc)?)?;
+    Ok(Sorts::from_vec(sorts))
+}
+
+/// A generator from one wire to one.
+fn through(alloc: Global, name: &str) -> Result<Term, NoMemory>
+    ensures { IfOk result (λ term. morphism_of term ≡ generator name.now (plain ∷ []) (plain ∷ [])) }
+{
+    let name = Name::new(alloc, name)?;
+    let dom = one(alloc)?;
+    let cod = one(alloc)?;
+    Ok(Term::Gen { name, dom, cod })
+}
+
+/// One term beside another.
+fn both(alloc: Global, first: Term, second: Term) -> Result<Term, NoMemory>
+    ensures { IfOk result (λ term. morphism_of term ≡ beside (morphism_of first) (morphism_of second)) }
+{
+    Ok(Term::Par(Box::new(alloc, first)?, Box::new(alloc, second)?))
+}
+
+/// Two wires that cross.
+fn crossed(alloc: Global) -> Result<Term, Fail>
+    ensures { IfOk result (λ term. morphism_of term ≡ permutation (plain ∷ plain ∷ []) (1 ∷ 0 ∷ [])) }
+{
+    let sorts = two(alloc)?;
+    let perm = permuted(alloc, &[1, 0])?;
+    Ok(Term::Perm { sorts, perm })
 }
 
 /// The graph of f * g.
@@ -92,8 +140,7 @@ fn graphs_follow_each_other(rt: HostRuntime) -> Result<(), Fail> {
 #[test]
 fn wires_have_their_ends(rt: HostRuntime) -> Result<(), Fail> {
     let alloc = rt.alloc();
-    let term = through(alloc, "f")?;
-    let graph = Graph::of_term(alloc, &term)?;
+    let graph = graph(alloc, "f")?;
     if graph.wire_count() != 2 {
         return Err(Fail::new("another size"));
     }
@@ -124,11 +171,7 @@ fn lists_make_a_graph(rt: HostRuntime) -> Result<(), Fail> {
 #[test]
 fn edges_have_their_rounds(rt: HostRuntime) -> Result<(), Fail> {
     let alloc = rt.alloc();
-    let pair = both(alloc, through(alloc, "u")?, through(alloc, "u")?)?;
-    let merge = named(alloc, "m", two(alloc)?, one(alloc)?)?;
-    let term = chain(alloc, pair, merge)?;
-    let graph = Graph::of_term(alloc, &term)?;
-    let rounds = graph.rounds()?;
+    let rounds = graph(alloc, "f f * m ;")?.rounds()?;
     assert_eq!(rt; rounds.as_slice(), [1, 1, 2].as_slice());
     Ok(())
 }

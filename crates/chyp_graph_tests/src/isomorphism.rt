@@ -1,62 +1,11 @@
 ghost use Rattle.std.specs.Prelude.{◌≡◌, ◌<◌, length, true};
 ghost use Rattle.chyp_iso.specs.Scratch.{HasRoomFor};
 
-use crate::diagrams::{both, chain, crossed, named, none, one, straight, through};
+use crate::diagrams::graph;
 use chyp_graph::{EdgeId, Graph, WireId};
 use chyp_iso::{Scratch, same};
 use std::alloc::Global;
 use std::test::Fail;
-
-/// An edge without wires.
-fn scalar(alloc: Global, name: &str) -> Result<Graph, Fail> {
-    let term = named(alloc, name, none(alloc), none(alloc))?;
-    Ok(Graph::of_term(alloc, &term)?)
-}
-
-/// An edge with one wire that goes into another edge.
-fn closed(alloc: Global, first: &str, second: &str) -> Result<Graph, Fail> {
-    let first = named(alloc, first, none(alloc), one(alloc)?)?;
-    let second = named(alloc, second, one(alloc)?, none(alloc))?;
-    let term = chain(alloc, first, second)?;
-    Ok(Graph::of_term(alloc, &term)?)
-}
-
-/// An edge from one wire to one.
-fn line(alloc: Global, name: &str) -> Result<Graph, Fail> {
-    let term = through(alloc, name)?;
-    Ok(Graph::of_term(alloc, &term)?)
-}
-
-/// The graph of f * g.
-fn pair(alloc: Global, first: &str, second: &str) -> Result<Graph, Fail> {
-    let term = both(alloc, through(alloc, first)?, through(alloc, second)?)?;
-    Ok(Graph::of_term(alloc, &term)?)
-}
-
-/// The graph of f * g ; sw.
-fn pair_crossed(alloc: Global) -> Result<Graph, Fail> {
-    let pair = both(alloc, through(alloc, "f")?, through(alloc, "g")?)?;
-    let term = chain(alloc, pair, crossed(alloc)?)?;
-    Ok(Graph::of_term(alloc, &term)?)
-}
-
-/// The graph of sw ; g * f.
-fn crossed_pair(alloc: Global) -> Result<Graph, Fail> {
-    let pair = both(alloc, through(alloc, "g")?, through(alloc, "f")?)?;
-    let term = chain(alloc, crossed(alloc)?, pair)?;
-    Ok(Graph::of_term(alloc, &term)?)
-}
-
-/// One graph beside another.
-fn beside_it(first: &Graph, second: &Graph) -> Result<Graph, Fail> {
-    if first.wire_count().max(second.wire_count()) > 9 {
-        return Err(Fail::new("more wires than nine"));
-    }
-    if first.edge_count().max(second.edge_count()) > 9 {
-        return Err(Fail::new("more edges than nine"));
-    }
-    Ok(first.beside(second)?)
-}
 
 /// Whether a graph fits into room for four edges and four wires.
 fn is_small(graph: &Graph) -> bool
@@ -82,8 +31,8 @@ fn is_same(alloc: Global, a: &Graph, b: &Graph) -> Result<bool, Fail> {
 #[test]
 fn crossings_pass_through(rt: HostRuntime) -> Result<(), Fail> {
     let alloc = rt.alloc();
-    let first = pair_crossed(alloc)?;
-    let second = crossed_pair(alloc)?;
+    let first = graph(alloc, "f g * sw ;")?;
+    let second = graph(alloc, "sw g f * ;")?;
     if !is_small(&first) || !is_small(&second) {
         return Err(Fail::new("too large"));
     }
@@ -100,27 +49,18 @@ fn crossings_pass_through(rt: HostRuntime) -> Result<(), Fail> {
 }
 
 #[test]
-fn other_graphs_are_not_the_same(rt: HostRuntime) -> Result<(), Fail> {
+fn parts_have_to_fit(rt: HostRuntime) -> Result<(), Fail> {
     let alloc = rt.alloc();
-    assert!(rt; !is_same(alloc, &pair(alloc, "f", "g")?, &pair(alloc, "g", "f")?)?);
-    let first = line(alloc, "f")?;
-    let more = beside_it(&first, &scalar(alloc, "s")?)?;
-    assert!(rt; !is_same(alloc, &more, &first)?);
-    let crossed = Graph::of_term(alloc, &crossed(alloc)?)?;
-    let straight = Graph::of_term(alloc, &straight(alloc)?)?;
-    assert!(rt; !is_same(alloc, &crossed, &straight)?);
-    Ok(())
-}
-
-#[test]
-fn a_later_part_fits(rt: HostRuntime) -> Result<(), Fail> {
-    let alloc = rt.alloc();
-    let first = closed(alloc, "u", "v")?;
-    let second = closed(alloc, "u", "w")?;
-    let there = beside_it(&first, &second)?;
-    let back = beside_it(&second, &first)?;
-    assert!(rt; is_same(alloc, &there, &back)?);
-    assert!(rt; !is_same(alloc, &there, &beside_it(&first, &first)?)?);
+    for (first, second, want) in [
+        ("f g *", "g f *", false),
+        ("f s *", "f", false),
+        ("sw", "id2", false),
+        ("u v ; u w ; *", "u w ; u v ; *", true),
+        ("u v ; u w ; *", "u v ; u v ; *", false),
+    ] {
+        let found = is_same(alloc, &graph(alloc, first)?, &graph(alloc, second)?)?;
+        assert_eq!(rt; found, want, "{first} and {second}");
+    }
     Ok(())
 }
 
@@ -219,22 +159,21 @@ fn is_same_by_trial(a: &Graph, b: &Graph) -> bool {
 /// A table of small graphs.
 fn table(alloc: Global) -> Result<Vec<Graph>, Fail> {
     let mut graphs = Vec::new(alloc);
-    let f = line(alloc, "f")?;
-    let s = scalar(alloc, "s")?;
-    let t = scalar(alloc, "t")?;
-    let ring = closed(alloc, "u", "v")?;
-    let other = closed(alloc, "u", "w")?;
-    graphs.push(beside_it(&f, &s)?)?;
-    graphs.push(beside_it(&s, &f)?)?;
-    graphs.push(beside_it(&s, &t)?)?;
-    graphs.push(beside_it(&t, &s)?)?;
-    graphs.push(beside_it(&ring, &other)?)?;
-    graphs.push(beside_it(&other, &ring)?)?;
-    graphs.push(beside_it(&ring, &f)?)?;
-    graphs.push(pair(alloc, "f", "f")?)?;
-    graphs.push(pair(alloc, "f", "g")?)?;
-    graphs.push(pair_crossed(alloc)?)?;
-    graphs.push(crossed_pair(alloc)?)?;
+    for words in [
+        "f s *",
+        "s f *",
+        "s t *",
+        "t s *",
+        "u v ; u w ; *",
+        "u w ; u v ; *",
+        "u v ; f *",
+        "f f *",
+        "f g *",
+        "f g * sw ;",
+        "sw g f * ;",
+    ] {
+        graphs.push(graph(alloc, words)?)?;
+    }
     Ok(graphs)
 }
 

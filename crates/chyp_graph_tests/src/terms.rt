@@ -1,16 +1,10 @@
-use crate::diagrams::{both, chain, crossed, named, one, permuted, two};
-use chyp_base::{Sort, Sorts};
+use crate::diagrams::{permuted, rewired, term};
 use chyp_term::{
     Equation, Equations, Perm, Places, Shape, ShapeError, Step, StepList, Term, Terms, copy, depth,
     gens, shape_of, size,
 };
 use std::alloc::Global;
 use std::test::Fail;
-
-// The generator `m : 2 -> 1`.
-fn product(alloc: Global) -> Result<Term, Fail> {
-    Ok(named(alloc, "m", two(alloc)?, one(alloc)?)?)
-}
 
 #[test]
 fn permutations_compose_and_stand_beside_each_other(rt: HostRuntime) -> Result<(), Fail> {
@@ -57,31 +51,17 @@ fn places_that_are_no_permutation_are_refused(rt: HostRuntime) -> Result<(), Fai
     Ok(())
 }
 
-// The term `(sw ; m) * sw`, typed from four wires to three.
-fn typed_term(alloc: Global) -> Result<Term, Fail> {
-    let row = chain(alloc, crossed(alloc)?, product(alloc)?)?;
-    both(alloc, row, crossed(alloc)?)
+fn clashes(alloc: Global, term: &Term) -> bool {
+    matches!(shape_of(alloc, term), Err(ShapeError::Clash))
 }
 
-fn three_wires_for_two_places(alloc: Global) -> Result<Term, Fail> {
-    let mut sorts = Vec::new(alloc);
-    for _ in 0..3 {
-        sorts.push(Sort::plain(alloc)?)?;
-    }
-    Ok(Term::Perm {
-        sorts: Sorts::from_vec(sorts),
-        perm: permuted(alloc, &[1, 0])?,
-    })
-}
-
-fn clashes(alloc: Global, term: Term) -> bool {
-    matches!(shape_of(alloc, &term), Err(ShapeError::Clash))
-}
+// A term from four wires to three.
+const TYPED: &str = "sw m ; sw *";
 
 #[test]
 fn a_term_has_a_type_or_a_clash(rt: HostRuntime) -> Result<(), Fail> {
     let alloc = rt.alloc();
-    let term = typed_term(alloc)?;
+    let term = term(alloc, TYPED)?;
     let Shape { dom, cod } = shape_of(alloc, &term).map_err(|_| Fail::new("no type"))?;
     assert_eq!(rt; [dom.as_slice().len(), cod.as_slice().len()], [4, 3]);
     Ok(())
@@ -90,9 +70,8 @@ fn a_term_has_a_type_or_a_clash(rt: HostRuntime) -> Result<(), Fail> {
 #[test]
 fn a_term_that_is_not_typed_clashes(rt: HostRuntime) -> Result<(), Fail> {
     let alloc = rt.alloc();
-    let row = chain(alloc, product(alloc)?, product(alloc)?)?;
-    assert!(rt; clashes(alloc, row));
-    assert!(rt; clashes(alloc, three_wires_for_two_places(alloc)?));
+    assert!(rt; clashes(alloc, &term(alloc, "m m ;")?));
+    assert!(rt; clashes(alloc, &rewired(alloc, 3, &[1, 0])?));
     Ok(())
 }
 
@@ -103,7 +82,7 @@ fn written(alloc: Global, term: &Term) -> Result<String, Fail> {
 #[test]
 fn a_copy_is_equal_and_as_big(rt: HostRuntime) -> Result<(), Fail> {
     let alloc = rt.alloc();
-    let term = typed_term(alloc)?;
+    let term = term(alloc, TYPED)?;
     let copied = copy(alloc, &term)?;
     assert_eq!(rt; [size(&copied), depth(&copied), gens(&copied)], [12, 3, 1]);
     assert_eq!(rt; written(alloc, &copied)?, written(alloc, &term)?);
@@ -112,8 +91,8 @@ fn a_copy_is_equal_and_as_big(rt: HostRuntime) -> Result<(), Fail> {
 
 fn equation(alloc: Global) -> Result<Equation, Fail> {
     Ok(Equation {
-        left: product(alloc)?,
-        right: typed_term(alloc)?,
+        left: term(alloc, "m")?,
+        right: term(alloc, TYPED)?,
     })
 }
 
@@ -122,7 +101,7 @@ fn equation_list(alloc: Global) -> Result<Equations, Fail> {
 }
 
 fn term_list(alloc: Global) -> Result<Terms, Fail> {
-    Ok(Terms::from_vec(Vec::from_array(alloc, [product(alloc)?])?))
+    Ok(Terms::from_vec(Vec::from_array(alloc, [term(alloc, "m")?])?))
 }
 
 fn step_list(alloc: Global) -> Result<StepList, Fail> {
