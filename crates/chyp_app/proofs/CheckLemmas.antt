@@ -3,10 +3,10 @@ use Rattle.std.proofs.Common.{ℕ, ◌+◌, ◌<◌, ◌≤◌, List, [], ◌++�
 use Rattle.std.specs.Io.KnownBytes.{Consumes}
 use Rattle.chyp_base.specs.declared.status.Status.TheVariants.{TooLong}
 use Rattle.chyp_lex.specs.declared.token.Token.{Token}
-use Rattle.chyp_lex.specs.Tokens.{AreTokens, AreSpans}
+use Rattle.chyp_lex.specs.Tokens.{AreTokens, AreSpans, text_limit}
 use Rattle.chyp_syntax.specs.declared.chunk.Chunk.{Chunk}
 use Rattle.chyp_syntax.specs.Chunk.{AreChunks}
-use Rattle.chyp_app.specs.Output.{HasOneOutput, EachTextHasOneOutput, CountsStatements, text_limit, too_long}
+use Rattle.chyp_app.specs.Output.{HasOneOutput, EachTextHasOneOutput, CountsStatements, too_long}
 use Rattle.chyp_app.specs.Headline.{BeginsToCheck, Begins, EndsSo, EndsWell}
 
 pub on_err : {T E : Type 0} (result : Result T E) (P : Type 0) → P → OnErr result P

@@ -2,11 +2,11 @@
 use Rattle.std.proofs.Common.{◌≡◌, ℕ, ◌<◌, ◌≤◌, List, length, ◌⊎◌, inl, inr, refl, sym, ◌∙◌, ap, ap₂, subst, arith}
 use Rattle.std.proofs.lemmas.Bool.{cases_lt}
 use Rattle.chyp_lex.specs.declared.token.Token.{Token}
-use Rattle.chyp_lex.specs.Tokens.{HasOneTokenList}
+use Rattle.chyp_lex.specs.Tokens.{HasOneTokenList, text_limit}
 use Rattle.chyp_syntax.specs.declared.chunk.Chunk.{Chunk}
 use Rattle.chyp_syntax.specs.Chunk.{AreChunks, HasOneListOfChunks}
 use Rattle.chyp_check.specs.Verdicts.{AreVerdicts, EachTextHasOneListOfVerdicts}
-use Rattle.chyp_app.specs.Output.{Output, IsOutput, too_long, checked, output_of, text_limit, HasOneOutput, CountsStatements}
+use Rattle.chyp_app.specs.Output.{Output, IsOutput, too_long, checked, output_of, HasOneOutput, CountsStatements}
 
 module _ (token_lists : (text : List ℕ) → HasOneTokenList text) (chunk_lists : (tokens : List Token) → HasOneListOfChunks tokens) (verdict_lists : EachTextHasOneListOfVerdicts) where
   output_one : (text : List ℕ) (a b : Output) → IsOutput text a → IsOutput text b → a ≡ b

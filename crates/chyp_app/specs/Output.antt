@@ -4,7 +4,7 @@ use Rattle.chyp_base.specs.declared.status.Status.{Status}
 use Rattle.chyp_base.specs.declared.status.Status.TheVariants.{Done, SomeNotGood, TooLong}
 use Rattle.chyp_base.specs.declared.verdict.Verdict.{Verdict}
 use Rattle.chyp_base.specs.Verdict.{is_good}
-use Rattle.chyp_lex.specs.Tokens.{AreTokens}
+use Rattle.chyp_lex.specs.Tokens.{AreTokens, text_limit}
 use Rattle.chyp_lex.specs.declared.token.Token.{Token}
 use Rattle.chyp_syntax.specs.Chunk.{AreChunks}
 use Rattle.chyp_syntax.specs.declared.chunk.Chunk.{Chunk}
@@ -16,10 +16,6 @@ pub record Output : Type 0 where
   pub text : List ℕ
   pub status : Status
   pub checks : ℕ
-
--- the most bytes that a text may have
-abbrev pub text_limit : ℕ
-text_limit = 1048576
 
 -- `Done` where as many statements are good as there are
 abbrev pub status_of : List Verdict → Status

@@ -1,6 +1,7 @@
 // From the bytes of a text to its report.
 ghost use Rattle.std.specs.Prelude.{◌≡◌, ◌≤◌, length, IfOk, OnErr};
-ghost use Rattle.chyp_app.specs.Output.{status_of, text_limit, CountsStatements, EachTextHasOneOutput};
+ghost use Rattle.chyp_lex.specs.Tokens.{text_limit};
+ghost use Rattle.chyp_app.specs.Output.{status_of, CountsStatements, EachTextHasOneOutput};
 ghost use Rattle.chyp_app.specs.Headline.{Checks, BeginsToCheck};
 
 use crate::report::{good_count, report};

@@ -21,6 +21,7 @@ ghost use Rattle.std.specs.Prelude.{◌≡◌, ◌<◌};
 use crate::run::run;
 use chyp_base::{MemLibrary, Status, StdSink, StdSource, Steps};
 use std::alloc::Global;
+use std::io::ErrorKind;
 use std::marker::Brand;
 use std::process::ExitCode;
 use std::sync::ledger::{Blank, Ledger};
@@ -61,9 +62,10 @@ fn run_outside<G: Ledger>(rt: &HostRuntime, alloc: Global, words: &[&str], blank
 
 // The words after the program's name.
 fn arguments(rt: &HostRuntime, alloc: Global) -> Result<Vec<String>, Status> {
-    let Ok(all) = std::env::args(rt) else {
-        return Err(Status::BadWords);
-    };
+    let all = std::env::args(rt).map_err(|error| match error.kind() {
+        ErrorKind::OutOfMemory => Status::NoMemory,
+        _ => Status::BadWords,
+    })?;
     all.skip(1).collect(alloc).map_err(|_| Status::NoMemory)
 }
 

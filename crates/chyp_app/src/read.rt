@@ -4,10 +4,11 @@ ghost use Rattle.std.specs.Io.KnownBytes.{Consumes, IsAtEnd};
 ghost use Rattle.chyp_app.specs.Faults.{StopsReading};
 
 use chyp_base::{Failed, Source};
+use chyp_lex::MAX_TEXT_LEN;
 use std::alloc::Global;
 
 /// The most bytes that a text may have.
-pub const TEXT_LIMIT: usize = 1_048_576;
+pub const TEXT_LIMIT: usize = MAX_TEXT_LEN;
 
 /// Why a read ended early.
 #[derive(Clone, Copy, Debug, PartialEq, Eq)]

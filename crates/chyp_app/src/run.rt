@@ -42,6 +42,7 @@ fn check<S: Source, K: Sink, G: Ledger>(
     ensures causes { ComesBy (S.faults source.old) (S.faults source.new) (K.faults sink.old) (K.faults sink.new) result }
     ensures given { result ≡ Status.ReadFault → (given : List ℕ) × Consumes (S.left source.old) (S.left source.new) given × (length given ≤ TEXT_LIMIT) }
     ensures untouched { result ≡ Status.ReadFault → (sink.new ≡ sink.old) × (steps.new ≡ steps.old) }
+    ensures unwritten { ((result ≡ Status.TooLong) ⊎ (result ≡ Status.NoMemory)) → sink.new ≡ sink.old }
     ensures whole { ((result ≡ Status.Done) ⊎ (result ≡ Status.SomeNotGood)) → IsAtEnd (S.left source.new) }
     ensures words { result ≡ Status.BadWords → ⊥ }
 {
@@ -67,8 +68,8 @@ fn check<S: Source, K: Sink, G: Ledger>(
 /// Obeys the words of the command line, over the outside that is handed in.
 ///
 /// `check` reads a text from the source, checks each of its statements, at one step each, and writes
-/// the report to the sink. The library is not asked. The status says how the run ended; `NoMemory` may
-/// come at any point.
+/// the report to the sink, once all verdicts are known. The library is not asked. The status says how the
+/// run ended; `NoMemory` may come at any point before the report is written.
 pub fn run<S: Source, K: Sink, L: Library, G: Ledger>(
     alloc: Global,
     words: &[&str],
@@ -108,6 +109,9 @@ pub fn run<S: Source, K: Sink, L: Library, G: Ledger>(
     // A read that failed came before any write, and before the limit was passed.
     ensures given { result ≡ Status.ReadFault → (given : List ℕ) × Consumes (S.left source.old) (S.left source.new) given × (length given ≤ TEXT_LIMIT) }
     ensures untouched { result ≡ Status.ReadFault → (sink.new ≡ sink.old) × (steps.new ≡ steps.old) }
+
+    // Nothing was written where the text is too long, or where memory was wanting.
+    ensures unwritten { ((result ≡ Status.TooLong) ⊎ (result ≡ Status.NoMemory)) → sink.new ≡ sink.old }
 
     // A run that ended well read its source to the end.
     ensures whole { ((result ≡ Status.Done) ⊎ (result ≡ Status.SomeNotGood)) → IsAtEnd (S.left source.new) }

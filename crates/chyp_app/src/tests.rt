@@ -1,6 +1,7 @@
 // Whole runs over memory.
 ghost use Rattle.std.specs.Prelude.{◌≡◌, ◌<◌, IfOk};
 
+use crate::complaint;
 use crate::run::run;
 use chyp_base::{MemLibrary, MemSink, MemSource, Status, Steps};
 use std::alloc::Global;
@@ -206,16 +207,22 @@ fn check(alloc: Global, text: &[u8], piece: usize, sink: &mut MemSink) -> Result
     Ok(run_uncounted(alloc, &["check"], source, sink))
 }
 
+// Fails unless the text has its report, whatever the pieces that it comes in.
+fn check_case(alloc: Global, case: &Case) -> Result<(), Fail> {
+    for piece in [1, 3, 4096] {
+        let mut sink = MemSink::new(alloc, 1000, piece, Vec::new(alloc))?;
+        let status = check(alloc, case.text, piece, &mut sink)?;
+        if status != case.status || sink.written() != case.written.as_bytes() {
+            return Err(Fail::new(case.written));
+        }
+    }
+    Ok(())
+}
+
 #[test]
 fn each_text_has_its_report(rt: HostRuntime) -> Result<(), Fail> {
-    let alloc = rt.alloc();
     for case in &CASES {
-        for piece in [1, 3, 4096] {
-            let mut sink = MemSink::new(alloc, 1000, piece, Vec::new(alloc))?;
-            let status = check(alloc, case.text, piece, &mut sink)?;
-            assert_eq!(rt; status, case.status, "{}", case.written);
-            assert_eq!(rt; sink.written(), case.written.as_bytes(), "{}", case.written);
-        }
+        check_case(rt.alloc(), case)?;
     }
     Ok(())
 }
@@ -242,29 +249,37 @@ fn words_that_are_not_accepted_are_refused(rt: HostRuntime) -> Result<(), Fail> 
     Ok(())
 }
 
+const TEXT: &[u8] = b"rewrite n : sw ; sw = id * id";
+
+const REPORT: &[u8] = b"1:1 rewrite n proved\ntotal 1 good 1\n";
+
 #[test]
-fn a_fault_ends_the_run(rt: HostRuntime) -> Result<(), Fail> {
+fn a_read_fault_ends_the_run(rt: HostRuntime) -> Result<(), Fail> {
     let alloc = rt.alloc();
-    let text = b"rewrite n : sw ; sw = id * id";
-    let report = b"1:1 rewrite n proved\ntotal 1 good 1\n".as_slice();
     // In pieces of 4 bytes the text takes 8 reads, and one that finds the end.
     for failing in 0..9 {
-        let source = MemSource::new(text.to_vec(alloc)?, 4, [failing].to_vec(alloc)?);
+        let source = MemSource::new(TEXT.to_vec(alloc)?, 4, [failing].to_vec(alloc)?);
         let mut sink = MemSink::new(alloc, 100, 100, Vec::new(alloc))?;
         let status = run_uncounted(alloc, &["check"], source, &mut sink);
         assert_eq!(rt; status, Status::ReadFault, "{failing}");
         assert_eq!(rt; sink.written().len(), 0);
     }
+    Ok(())
+}
+
+#[test]
+fn a_write_fault_ends_the_run(rt: HostRuntime) -> Result<(), Fail> {
+    let alloc = rt.alloc();
     for (failing, count) in [(0, 0), (1, 10), (3, 30)] {
-        let source = MemSource::new(text.to_vec(alloc)?, 4, Vec::new(alloc));
+        let source = MemSource::new(TEXT.to_vec(alloc)?, 4, Vec::new(alloc));
         let mut sink = MemSink::new(alloc, 100, 10, [failing].to_vec(alloc)?)?;
         let status = run_uncounted(alloc, &["check"], source, &mut sink);
         assert_eq!(rt; status, Status::WriteFault, "{failing}");
-        assert_eq!(rt; sink.written(), &report[..count], "{failing}");
+        assert_eq!(rt; sink.written(), &REPORT[..count], "{failing}");
     }
     let mut sink = MemSink::new(alloc, 20, 7, Vec::new(alloc))?;
-    assert_eq!(rt; check(alloc, text, 4, &mut sink)?, Status::WriteFault);
-    assert_eq!(rt; sink.written(), &report[..20]);
+    assert_eq!(rt; check(alloc, TEXT, 4, &mut sink)?, Status::WriteFault);
+    assert_eq!(rt; sink.written(), &REPORT[..20]);
     Ok(())
 }
 
@@ -286,12 +301,13 @@ fn a_text_past_the_limit_is_refused(rt: HostRuntime) -> Result<(), Fail> {
 #[test]
 fn parentheses_past_the_limit_are_refused(rt: HostRuntime) -> Result<(), Fail> {
     let alloc = rt.alloc();
-    let mut text = b"let x = ".to_vec(alloc)?;
-    for _ in 0..100_000 {
-        text.push(b'(')?;
-    }
+    let open = "(".repeat(alloc, 100_000)?;
+    let text = format!(in alloc; "let x = {open}")?;
     let mut sink = MemSink::new(alloc, 100, 100, Vec::new(alloc))?;
-    assert_eq!(rt; check(alloc, &text, 4096, &mut sink)?, Status::SomeNotGood);
+    assert_eq!(rt;
+        check(alloc, text.as_bytes(), 4096, &mut sink)?,
+        Status::SomeNotGood
+    );
     assert_eq!(rt;
         sink.written(),
         b"1:1 let x syntax at 1:265\ntotal 1 good 0\n".as_slice()
@@ -314,10 +330,7 @@ fn hostile_texts_are_reported(rt: HostRuntime) -> Result<(), Fail> {
             "total 52428 good 1\n",
         ),
     ] {
-        let mut text = Vec::with_capacity(alloc, 1_048_576)?;
-        for _ in 0..count {
-            text.extend_from_slice(part)?;
-        }
+        let text = part.repeat(alloc, count)?;
         let mut sink = MemSink::new(alloc, 8_000_000, 1_000_000, Vec::new(alloc))?;
         assert_eq!(rt;
             check(alloc, &text, 65_536, &mut sink)?,
@@ -326,4 +339,24 @@ fn hostile_texts_are_reported(rt: HostRuntime) -> Result<(), Fail> {
         assert!(rt; sink.written().ends_with(total.as_bytes()), "{total}");
     }
     Ok(())
+}
+
+#[test]
+fn a_failure_is_said_in_one_line(rt: HostRuntime) {
+    for (status, line) in [
+        (Status::Done, None),
+        (Status::SomeNotGood, None),
+        (
+            Status::BadWords,
+            Some("chyp: bad words; use check, live or generate N"),
+        ),
+        (Status::ReadFault, Some("chyp: read fault")),
+        (Status::WriteFault, Some("chyp: write fault")),
+        (Status::LibraryFault, Some("chyp: library fault")),
+        (Status::TooLong, Some("chyp: input too long")),
+        (Status::BadCommand, Some("chyp: bad command")),
+        (Status::NoMemory, Some("chyp: no memory")),
+    ] {
+        assert_eq!(rt; complaint(status), line);
+    }
 }

@@ -153,7 +153,7 @@ const WRITES: [Writes; 4] = [
 ];
 
 #[test]
-fn memory_fails_where_it_is_told(rt: HostRuntime) -> Result<(), Fail> {
+fn reads_fail_where_they_are_told(rt: HostRuntime) -> Result<(), Fail> {
     let alloc = rt.alloc();
     for case in &READS {
         let bytes = Vec::from_slice(alloc, b"abcdef")?;
@@ -166,6 +166,12 @@ fn memory_fails_where_it_is_told(rt: HostRuntime) -> Result<(), Fail> {
         assert_eq!(rt; [first, second, third], case.answers);
         assert_eq!(rt; buffer, case.buffer);
     }
+    Ok(())
+}
+
+#[test]
+fn writes_fail_where_they_are_told(rt: HostRuntime) -> Result<(), Fail> {
+    let alloc = rt.alloc();
     for case in &WRITES {
         let failing = Vec::from_slice(alloc, &[case.failing])?;
         let mut sink = MemSink::new(alloc, case.room, case.piece, failing)?;

@@ -32,7 +32,7 @@ pub enum Verdict {
     Clash { name: Name },
     /// The token names nothing.
     Unknown { token: u32 },
-    /// The token names a statement that was refused.
+    /// The token names a `gen`, `let` or `rule` that was refused.
     Broken { token: u32 },
     /// The token names something of another kind than its place wants.
     Kind { token: u32 },

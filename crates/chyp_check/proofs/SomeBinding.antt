@@ -17,7 +17,7 @@ use Rattle.chyp_syntax.specs.Term.{TermTree}
 use Rattle.chyp_term.specs.Derivation.{IsEquation}
 use Rattle.chyp_env.specs.Expansion.{plain_wires}
 use Rattle.chyp_env.specs.Environment.{Sense, generator, abbreviation, law, unproved, broken, Binding}
-use Rattle.chyp_env.specs.Limits.{IsWithinLimits}
+use Rattle.chyp_term.specs.Limits.{IsWithinLimits}
 use Rattle.chyp_env.specs.Site.{Site, binding_at}
 use Rattle.chyp_env.specs.Sound.{IsSound, IsSoundSense}
 use Rattle.chyp_names.specs.Binding.{IsRewrite, StandsFor, a_declared_generator, a_term, a_rule, a_proved_rewrite, an_unproved_rewrite, a_broken_statement}

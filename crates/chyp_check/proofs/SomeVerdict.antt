@@ -12,7 +12,7 @@ use Rattle.chyp_syntax.specs.Step.{StepTree}
 use Rattle.chyp_term.specs.Derivation.{Derives, IsEquation, same, chain}
 use Rattle.chyp_term.specs.Measure.{size_of, depth_of, generators_of}
 use Rattle.chyp_term.specs.Morphism.{Morphism, IsTyped}
-use Rattle.chyp_env.specs.Limits.{IsWithinLimits, most_depth, most_generators, most_ports, most_size}
+use Rattle.chyp_term.specs.Limits.{IsWithinLimits, most_depth, most_generators, most_ports, most_size}
 use Rattle.chyp_env.specs.Site.{Site, is_declared}
 use Rattle.chyp_env.specs.Sound.{IsSound}
 use Rattle.chyp_env.specs.Typing.{AllHold, FailsFirst, Test}

@@ -4,6 +4,7 @@ use Rattle.std.proofs.lemmas.Bool.{cases_lt}
 use Rattle.std.specs.List.{list_any}
 use Rattle.chyp_term.specs.Derivation.{Derives, IsEquation}
 use Rattle.chyp_term.specs.Morphism.{Morphism}
+use Rattle.chyp_term.specs.Limits.{most_size}
 use Rattle.chyp_term.specs.Measure.{size_of}
 use Rattle.chyp_term.specs.Term.{morphism_of, morphisms_of}
 use Rattle.chyp_term.specs.declared.term.Term.{Term}
@@ -82,7 +83,7 @@ typed-at terms j k s t alike e f =
     subst (IsEquation s) b.1 (subst (λ m. IsEquation m (slice_index_or terms k t)) a.1 (alike j s a.0 k t b.0))
 
 -- each of the terms is small
-pub size-at : (terms : List Morphism) (k : ℕ) (t : Morphism) → All (λ m. size_of m ≤ 200000) terms → slice_get terms k ≡ Some t → size_of t ≤ 200000
+pub size-at : (terms : List Morphism) (k : ℕ) (t : Morphism) → All (λ m. size_of m ≤ most_size) terms → slice_get terms k ≡ Some t → size_of t ≤ most_size
 size-at terms k t small e =
     let a = slice_get-read terms k t e in
-    subst (λ m. size_of m ≤ 200000) a.1 (small k t a.0)
+    subst (λ m. size_of m ≤ most_size) a.1 (small k t a.0)

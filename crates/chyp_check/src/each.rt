@@ -1,7 +1,7 @@
 // The verdicts of all statements of a text.
 ghost use Rattle.std.specs.Prelude.{◌≡◌, ◌≤◌, ◌+◌, [], length, IfOk, OnOk, OnErr};
 ghost use Rattle.chyp_lex.specs.Names.{NamesAreText};
-ghost use Rattle.chyp_lex.specs.Tokens.{AreSpans};
+ghost use Rattle.chyp_lex.specs.Tokens.{AreSpans, text_limit};
 ghost use Rattle.chyp_syntax.specs.Chunk.{AreChunks};
 ghost use Rattle.chyp_env.specs.ChunkView.{IsLent, site_of};
 ghost use Rattle.chyp_names.specs.Binding.{Binds};
@@ -17,8 +17,8 @@ use chyp_syntax::{Chunk, chunk_tokens};
 use std::alloc::Global;
 use std::sync::ledger::Ledger;
 
-// The verdict of a statement, whose name is then bound.
-fn judge_and_bind(
+/// The verdict of a statement, whose name is then bound.
+pub(crate) fn judge_and_bind(
     alloc: Global,
     home: &Name,
     chunk: &ChunkView<'_>,
@@ -52,7 +52,7 @@ pub fn check_each<G: Ledger>(
     chunks: &[Chunk],
     steps: &mut Steps<G>,
 ) -> Result<Verdicts, NoMemory>
-    requires short { length text.now ≤ 1048576 }
+    requires short { length text.now ≤ text_limit }
     requires spans { AreSpans (length text.now) tokens.now }
     requires names { NamesAreText text.now tokens.now }
     requires chunks { AreChunks tokens.now chunks.now }

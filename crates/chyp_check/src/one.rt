@@ -3,7 +3,7 @@ ghost use Rattle.std.specs.Prelude.{◌≡◌, ◌≤◌, ◌<◌, ◌+◌, ◌^
 ghost use Rattle.chyp_syntax.specs.Sentence.{IsSentence};
 ghost use Rattle.chyp_syntax.specs.Statement.{statement_of};
 ghost use Rattle.chyp_env.specs.ChunkView.{IsLent, site_of};
-ghost use Rattle.chyp_env.specs.Limits.{IsWithinLimits};
+ghost use Rattle.chyp_term.specs.Limits.{IsWithinLimits};
 ghost use Rattle.chyp_names.specs.Binding.{IsOutcome};
 ghost use Rattle.chyp_names.specs.Typing.{AreTypedAlike};
 ghost use Rattle.chyp_term.specs.Term.{morphisms_of};

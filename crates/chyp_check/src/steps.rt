@@ -2,6 +2,7 @@
 ghost use Rattle.std.specs.Prelude.{◌≡◌, ◌≤◌, ◌<◌, ◌+◌, ◌^◌, ℕ, All, IfOk, IfNone, IfSome, length, map};
 ghost use Rattle.std.specs.List.{list_any};
 ghost use Rattle.chyp_syntax.specs.Step.{step_of};
+ghost use Rattle.chyp_term.specs.Limits.{most_size};
 ghost use Rattle.chyp_term.specs.Measure.{size_of};
 ghost use Rattle.chyp_term.specs.Term.{morphisms_of};
 ghost use Rattle.chyp_names.specs.Typing.{AreTypedAlike};
@@ -61,7 +62,7 @@ fn is_open(steps: &[StepAst]) -> bool
 // The number, from 1, of the first step whose equation the laws don't derive.
 fn first_underived(alloc: Global, terms: &[Term]) -> Result<Option<u32>, NoMemory>
     requires alike { AreTypedAlike (morphisms_of terms.now) }
-    requires small { All (λ t. size_of t ≤ 200000) (morphisms_of terms.now) }
+    requires small { All (λ t. size_of t ≤ most_size) (morphisms_of terms.now) }
     requires few { length terms.now < 2 ^ 32 }
     ensures some { IfOk result (λ found. IfSome found (λ step. FailsAtStep (morphisms_of terms.now) step)) }
     ensures none { IfOk result (λ found. IfNone found (AreDerived (equations_between (morphisms_of terms.now)) (length (equations_between (morphisms_of terms.now))))) }
@@ -83,7 +84,7 @@ pub(crate) fn verdict_on_steps(
 ) -> Result<Verdict, NoMemory>
     requires some { 0 < length terms.now }
     requires alike { AreTypedAlike (morphisms_of terms.now) }
-    requires small { All (λ t. size_of t ≤ 200000) (morphisms_of terms.now) }
+    requires small { All (λ t. size_of t ≤ most_size) (morphisms_of terms.now) }
     requires few { length terms.now < 2 ^ 32 }
     ensures { IfOk result (λ verdict. IsVerdictOnSteps (morphisms_of terms.now) (map step_of steps.now) verdict) }
 {

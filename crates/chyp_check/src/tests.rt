@@ -1,6 +1,7 @@
 // Each public call once.
 ghost use Rattle.std.specs.Prelude.{◌≡◌, ◌≤◌, ◌<◌, length};
 
+use crate::each::judge_and_bind;
 use crate::*;
 use chyp_base::{Name, Steps, Verdict};
 use chyp_lex::{each_name_is_text, lex};
@@ -35,10 +36,32 @@ fn the_statements_of_a_text_have_verdicts(rt: HostRuntime) -> Result<(), Fail> {
         Verdict::Differs { step: 1 },
     ];
     assert_eq!(rt; verdicts.as_slice(), given.as_slice());
+    assert_eq!(rt; verdicts.into_vec().len(), 3);
     Ok(())
 }
 
-fn verdict_of<G: Ledger>(alloc: Global, text: &[u8], blank: Blank) -> Result<Verdict, Fail>
+/// Binds the name of the statement that this text is.
+fn bind_text(alloc: Global, env: &mut Env, text: &[u8]) -> Result<(), Fail>
+    requires { length text.now ≤ 1000 }
+{
+    each_name_is_text();
+    let tokens = lex(alloc, text, b"")?;
+    let module = Name::new(alloc, "")?;
+    let chunk = ChunkView {
+        tokens: &tokens,
+        first: text,
+        second: &[],
+    };
+    let _ = judge_and_bind(alloc, &module, &chunk, 0, env)?;
+    Ok(())
+}
+
+fn verdict_of<G: Ledger>(
+    alloc: Global,
+    env: &Env,
+    text: &[u8],
+    blank: Blank,
+) -> Result<Verdict, Fail>
     requires short { length text.now ≤ 1000 }
     requires name { blank.name ≡ G.name }
     requires parts { blank.parts ≡ G.parts }
@@ -48,7 +71,6 @@ fn verdict_of<G: Ledger>(alloc: Global, text: &[u8], blank: Blank) -> Result<Ver
     let mut steps = Steps::<G>::new(blank);
     let tokens = lex(alloc, text, b"")?;
     let module = Name::new(alloc, "")?;
-    let env = Env::new(alloc);
     let chunk = ChunkView {
         tokens: &tokens,
         first: text,
@@ -57,15 +79,19 @@ fn verdict_of<G: Ledger>(alloc: Global, text: &[u8], blank: Blank) -> Result<Ver
     let inputs = Inputs {
         module: &module,
         chunk,
-        env: &env,
+        env,
     };
     Ok(check_one(alloc, &inputs, &mut steps)?)
 }
 
 #[test]
 fn one_statement_has_its_verdict(rt: HostRuntime) -> Result<(), Fail> {
-    let text = b"rewrite a : sw ; sw = id * id = sw";
-    let verdict = verdict_of::<Brand>(rt.alloc(), text, Blank::new(1))?;
-    assert_eq!(rt; verdict, Verdict::Differs { step: 2 });
+    let alloc = rt.alloc();
+    let mut env = Env::new(alloc);
+    bind_text(alloc, &mut env, b"gen f : 1 -> 1")?;
+    bind_text(alloc, &mut env, b"gen g : 1 -> 1")?;
+    let text = b"rewrite x : f * g = g * f";
+    let verdict = verdict_of::<Brand>(alloc, &env, text, Blank::new(1))?;
+    assert_eq!(rt; verdict, Verdict::Differs { step: 1 });
     Ok(())
 }

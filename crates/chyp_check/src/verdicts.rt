@@ -33,4 +33,11 @@ impl Verdicts {
     {
         &self.items
     }
+
+    /// The verdicts, in order, as they are kept. It takes no memory.
+    pub fn into_vec(self) -> Vec<Verdict>
+        ensures { result.items ≡ self }
+    {
+        self.items
+    }
 }

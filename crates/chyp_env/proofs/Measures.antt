@@ -4,9 +4,9 @@ use Rattle.chyp_term.specs.Morphism.{Morphism}
 use Rattle.chyp_term.specs.Derivation.{empty}
 use Rattle.chyp_syntax.specs.declared.term.TermAst.{TermAst}
 use Rattle.chyp_env.specs.declared.expansion.Join.{Join}
-use Rattle.chyp_env.specs.declared.known.Sizes.{Sizes}
+use Rattle.chyp_env.specs.declared.sizes.Sizes.{Sizes}
 use Rattle.chyp_env.specs.Expansion.{halved, join_of}
-use Rattle.chyp_env.specs.Known.{AreSizes}
+use Rattle.chyp_env.specs.Sizes.{AreSizes}
 use Rattle.chyp_env.proofs.Halves.{part_in}
 
 -- measures are those of an equal term

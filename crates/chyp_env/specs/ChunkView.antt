@@ -2,7 +2,7 @@
 use Rattle.std.specs.Prelude.{◌≡◌, ℕ, ◌≤◌, List, [], length, All}
 use Rattle.std.specs.Str.{IsUtf8}
 use Rattle.chyp_lex.specs.declared.token.TokenKind.TheVariants.{Ident}
-use Rattle.chyp_lex.specs.Tokens.{AreSpans, token_text}
+use Rattle.chyp_lex.specs.Tokens.{AreSpans, text_limit, token_text}
 use Rattle.chyp_env.specs.declared.chunk_view.ChunkView.{ChunkView}
 use Rattle.chyp_env.specs.Environment.{Binding}
 use Rattle.chyp_env.specs.Site.{Site}
@@ -11,7 +11,7 @@ use Rattle.chyp_env.specs.Site.{Site}
 pub record IsLent (chunk : ChunkView) : Type 0 where
   pub spans : AreSpans (length chunk.first.now) chunk.tokens.now
   pub one_piece : chunk.second.now ≡ []
-  pub short : length chunk.first.now ≤ 1048576
+  pub short : length chunk.first.now ≤ text_limit
   pub spelled : All (λ token. token.kind ≡ Ident → IsUtf8 (token_text chunk.first.now token)) chunk.tokens.now
 
 -- the statement in a module of this name, behind statements that have made this environment

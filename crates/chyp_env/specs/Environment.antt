@@ -5,7 +5,7 @@ use Rattle.chyp_base.specs.declared.sort.Sort.{Sort}
 use Rattle.chyp_term.specs.Morphism.{Morphism}
 
 -- What a name stands for: a generator, by its name in terms and its type; a term; a law, from its first side to its last;
--- a rewrite that is not proved; or a statement that was refused.
+-- a rewrite that is not proved; or a `gen`, `let` or `rule` that was refused.
 pub data Sense : Type 0 where
   generator : (name : List ℕ) (dom cod : List Sort) → Sense
   abbreviation : (term : Morphism) → Sense

@@ -5,9 +5,9 @@ pub mod Environment
 pub mod Expansion
 pub mod Kept
 pub mod Known
-pub mod Limits
 pub mod PlainWires
 pub mod Shape
 pub mod Site
+pub mod Sizes
 pub mod Sound
 pub mod Typing

@@ -3,7 +3,7 @@ use Rattle.std.specs.Prelude.{◌≡◌, ◌≤◌, false, List, [], ◌∷◌, 
 use Rattle.chyp_term.specs.Derivation.{IsEquation}
 use Rattle.chyp_term.specs.Morphism.{IsTyped}
 use Rattle.chyp_env.specs.Environment.{Sense, generator, abbreviation, law, unproved, broken, Binding, is_bound}
-use Rattle.chyp_env.specs.Limits.{IsWithinLimits, most_ports}
+use Rattle.chyp_term.specs.Limits.{IsWithinLimits, most_ports}
 
 -- terms are typed and within the limits, a law is an equation of two such terms, and generators have few ports
 abbrev pub IsSoundSense : Sense → Type 0

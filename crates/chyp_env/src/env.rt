@@ -1,5 +1,5 @@
 // What names stand for.
-ghost use Rattle.std.specs.Prelude.{◌≡◌, ℕ, [], ◌∷◌, ◌++◌, false, IfSome, IfNone, OnOk, OnErr, Some, None};
+ghost use Rattle.std.specs.Prelude.{◌≡◌, ℕ, [], ◌∷◌, ◌++◌, false, IfSome, IfNone, IfOk, OnOk, OnErr, Some, None};
 ghost use Rattle.std.specs.Option.{option_map_or};
 ghost use Rattle.chyp_term.specs.Derivation.{empty};
 ghost use Rattle.chyp_env.specs.Entry.{entry_of, sense_of};
@@ -89,11 +89,18 @@ impl Env {
         let _ = &self.entries;
     }
 
-    /// The plain wires that its terms share; None where no name is bound.
-    pub fn plain(&self) -> Option<&PlainWires>
-        ensures { IfSome result (λ plain. ArePlain plain.now) }
+    /// The plain wires that its terms share, or new ones where no name is bound.
+    ///
+    /// # Errors
+    ///
+    /// `NoMemory` where they can't be kept, or can't be shared once more.
+    pub fn plain_wires(&self) -> Result<PlainWires, NoMemory>
+        ensures { IfOk result ArePlain }
     {
-        self.plain.as_ref()
+        match &self.plain {
+            Some(plain) => plain.share(),
+            None => PlainWires::new(self.allocator()),
+        }
     }
 
     /// Makes the plain wires, where they aren't there.

@@ -5,24 +5,13 @@ ghost use Rattle.chyp_term.specs.Term.{morphism_of};
 ghost use Rattle.chyp_env.specs.Entry.{sense_of};
 ghost use Rattle.chyp_env.specs.Kept.{AreKnown};
 ghost use Rattle.chyp_env.specs.Known.{IsKnown};
-ghost use Rattle.chyp_env.specs.Limits.{IsWithinLimits, most_ports};
+ghost use Rattle.chyp_term.specs.Limits.{IsWithinLimits, most_ports};
 ghost use Rattle.chyp_env.specs.Sound.{IsSoundSense};
 
-use crate::Meaning;
+use crate::{Meaning, Sizes};
 use chyp_base::NoMemory;
 use chyp_term::{Shape, ShapeError, Term, depth, gens, shape_of, size};
 use std::alloc::Global;
-
-/// The measures of a term, each 2^64 - 1 where it is greater.
-#[derive(Clone, Copy, Debug, PartialEq, Eq)]
-pub struct Sizes {
-    /// Its size.
-    pub size: u64,
-    /// Its depth.
-    pub depth: u64,
-    /// The number of its generators.
-    pub generators: u64,
-}
 
 /// The type and the measures of a term.
 #[derive(Debug, Drop)]

@@ -13,6 +13,6 @@ pub enum Meaning {
     Law(Equation),
     /// A rewrite that is not proved.
     Unproved,
-    /// A statement that was refused.
+    /// A `gen`, `let` or `rule` that was refused.
     Broken,
 }

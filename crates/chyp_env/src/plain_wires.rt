@@ -30,6 +30,22 @@ impl PlainWires {
         Ok(PlainWires { sort, one, two })
     }
 
+    /// The same plain wires.
+    ///
+    /// # Errors
+    ///
+    /// `NoMemory` where they can't be shared once more.
+    pub(crate) fn share(&self) -> Result<PlainWires, NoMemory>
+        requires { ArePlain self.now }
+        ensures { IfOk result ArePlain }
+    {
+        Ok(PlainWires {
+            sort: self.sort.share()?,
+            one: self.one.share()?,
+            two: self.two.share()?,
+        })
+    }
+
     /// So many plain wires, in a list that is shared.
     ///
     /// # Errors

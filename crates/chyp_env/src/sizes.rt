@@ -5,13 +5,23 @@ ghost use Rattle.chyp_term.specs.Morphism.{Morphism, permutation};
 ghost use Rattle.chyp_syntax.specs.Term.{tree_of};
 ghost use Rattle.chyp_env.specs.ChunkView.{IsLent, site_of};
 ghost use Rattle.chyp_env.specs.Expansion.{expansion_in, halved, join_of};
-ghost use Rattle.chyp_env.specs.Known.{AreSizes};
+ghost use Rattle.chyp_env.specs.Sizes.{AreSizes};
 ghost use Rattle.chyp_env.specs.Site.{meaning_at};
 
 use crate::expansion::Join;
-use crate::known::Sizes;
 use crate::{ChunkView, Env};
 use chyp_syntax::{TermAst, text_at};
+
+/// The measures of a term, each 2^64 - 1 where it is greater.
+#[derive(Clone, Copy, Debug, PartialEq, Eq)]
+pub struct Sizes {
+    /// Its size.
+    pub size: u64,
+    /// Its depth.
+    pub depth: u64,
+    /// The number of its generators.
+    pub generators: u64,
+}
 
 /// The measures of the term that a tree stands for, which isn't made. It takes no memory, and goes by
 /// recursion as deep as that term.

@@ -1,7 +1,7 @@
 // Numbers of edges.
 use std::marker::Model;
 
-/// The number of edge of a graph, from 0.
+/// The number of an edge of a graph, from 0.
 #[derive(Clone, Copy, Debug, PartialEq, Eq)]
 pub struct EdgeId(pub u32);
 

@@ -1,7 +1,7 @@
 // Numbers of wires.
 use std::marker::Model;
 
-/// The number of wire of a graph, from 0.
+/// The number of a wire of a graph, from 0.
 #[derive(Clone, Copy, Debug, PartialEq, Eq)]
 pub struct WireId(pub u32);
 

@@ -1,5 +1,6 @@
 // Small terms, over plain wires, by words.
 ghost use Rattle.std.specs.Prelude.{◌≡◌, ◌≤◌, [], IfOk, IsTrue};
+ghost use Rattle.chyp_term.specs.Limits.{most_size};
 ghost use Rattle.chyp_term.specs.Measure.{size_of};
 ghost use Rattle.chyp_term.specs.Morphism.{IsTyped};
 ghost use Rattle.chyp_term.specs.Term.{morphism_of};
@@ -109,23 +110,23 @@ pub(crate) fn term(alloc: Global, words: &str) -> Result<Term, Fail> {
         take(alloc, &mut terms, word)?;
     }
     match terms.pop() {
-        Some(term) => Ok(term),
-        None => Err(Fail::new("no words")),
+        Some(term) if terms.is_empty() => Ok(term),
+        _ => Err(Fail::new("words that leave no term, or several")),
     }
 }
 
 /// Whether a term is typed and small.
 fn is_good(alloc: Global, term: &Term) -> bool
     ensures typed { IsTrue result → IsTyped (morphism_of term.now) }
-    ensures small { IsTrue result → size_of (morphism_of term.now) ≤ 200000 }
+    ensures small { IsTrue result → size_of (morphism_of term.now) ≤ most_size }
 {
-    size(term) <= 200000 && shape_of(alloc, term).is_ok()
+    size(term) <= 200_000 && shape_of(alloc, term).is_ok()
 }
 
 /// The term of these words, which is typed and small.
 pub(crate) fn typed(alloc: Global, words: &str) -> Result<Term, Fail>
     ensures typed { IfOk result (λ term. IsTyped (morphism_of term)) }
-    ensures small { IfOk result (λ term. size_of (morphism_of term) ≤ 200000) }
+    ensures small { IfOk result (λ term. size_of (morphism_of term) ≤ most_size) }
 {
     let term = term(alloc, words)?;
     if is_good(alloc, &term) {

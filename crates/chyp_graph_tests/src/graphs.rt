@@ -6,7 +6,8 @@ ghost use Rattle.chyp_graph.specs.PlainGraph.{input_sorts, output_sorts};
 
 use crate::diagrams::{graph, permuted};
 use chyp_base::{Name, NoMemory, Sort, Sorts};
-use chyp_graph::{EdgeId, EdgeIds, EdgeParts, Graph, WireId, WireIds};
+use chyp_graph::{EdgeId, EdgeIds, EdgePart, EdgeParts, Graph, WireId, WireIds};
+use chyp_laws::graphs_decide_the_laws;
 use chyp_term::Term;
 use std::alloc::Global;
 use std::test::Fail;
@@ -152,16 +153,64 @@ fn wires_have_their_ends(rt: HostRuntime) -> Result<(), Fail> {
     Ok(())
 }
 
+/// Four plain wires.
+fn four(alloc: Global) -> Result<Sorts, NoMemory>
+    ensures { IfOk result (λ sorts. sorts ≡ plain ∷ plain ∷ plain ∷ plain ∷ []) }
+{
+    two(alloc)?.beside(&two(alloc)?)
+}
+
+/// Two wires by their numbers.
+fn ends(alloc: Global, first: u32, second: u32) -> Result<WireIds, Fail>
+    ensures { IfOk result (λ ids. ids ≡ first ∷ second ∷ []) }
+{
+    Ok(WireIds::from_vec(vec![in alloc; WireId(first), WireId(second)]?))
+}
+
+/// An edge with one source and one target.
+fn edge(alloc: Global, name: &str, from: u32, to: u32) -> Result<EdgePart, Fail>
+    ensures { IfOk result (λ edge. edge ≡ record { name = name.now; sources = from ∷ []; targets = to ∷ [] }) }
+{
+    Ok(EdgePart {
+        name: Name::new(alloc, name)?,
+        sources: WireIds::from_vec(vec![in alloc; WireId(from)]?),
+        targets: WireIds::from_vec(vec![in alloc; WireId(to)]?),
+    })
+}
+
+/// The edges of f * g.
+fn edges(alloc: Global) -> Result<EdgeParts, Fail>
+    ensures { IfOk result (λ edges. edges ≡ record { name = 102 ∷ []; sources = 0 ∷ []; targets = 1 ∷ [] } ∷ record { name = 103 ∷ []; sources = 2 ∷ []; targets = 3 ∷ [] } ∷ []) }
+{
+    let edges = vec![in alloc; edge(alloc, "f", 0, 1)?, edge(alloc, "g", 2, 3)?]?;
+    Ok(EdgeParts::from_vec(edges))
+}
+
+/// The graph of f * g, whose outputs then cross.
+fn listed(alloc: Global) -> Result<Graph, Fail> {
+    graphs_decide_the_laws();
+    let wires = four(alloc)?;
+    let edges = edges(alloc)?;
+    let starts = ends(alloc, 0, 2)?;
+    let ends = ends(alloc, 3, 1)?;
+    Ok(Graph::of_parts(wires, edges, starts, ends)?)
+}
+
 #[test]
 fn lists_make_a_graph(rt: HostRuntime) -> Result<(), Fail> {
+    let graph = listed(rt.alloc())?;
+    check(&graph, [("f", 0, 1), ("g", 2, 3)], [0, 2], [3, 1])
+}
+
+#[test]
+fn lists_give_back_what_they_hold(rt: HostRuntime) -> Result<(), Fail> {
     let alloc = rt.alloc();
-    let ends = WireIds::from_vec(vec![in alloc; WireId(1), WireId(0)]?);
-    assert_eq!(rt; ends.as_slice().len(), 2);
-    let starts = WireIds::from_vec(vec![in alloc; WireId(0), WireId(1)]?);
-    let edges = EdgeParts::from_vec(Vec::new(alloc));
-    assert_eq!(rt; edges.as_slice().len(), 0);
-    let graph = Graph::of_parts(two(alloc)?, edges, starts, ends)?;
-    assert_eq!(rt; graph.outputs(), [WireId(1), WireId(0)].as_slice());
+    let wires = ends(alloc, 1, 0)?;
+    assert_eq!(rt; wires.as_slice(), [WireId(1), WireId(0)].as_slice());
+    assert_eq!(rt; wires.into_vec().len(), 2);
+    let edges = edges(alloc)?;
+    assert_eq!(rt; edges.as_slice().len(), 2);
+    assert_eq!(rt; edges.into_vec().len(), 2);
     let ids = EdgeIds::from_vec(vec![in alloc; EdgeId(7)]?);
     assert_eq!(rt; ids.as_slice(), [EdgeId(7)].as_slice());
     assert_eq!(rt; ids.into_vec().len(), 1);
@@ -171,7 +220,7 @@ fn lists_make_a_graph(rt: HostRuntime) -> Result<(), Fail> {
 #[test]
 fn edges_have_their_rounds(rt: HostRuntime) -> Result<(), Fail> {
     let alloc = rt.alloc();
-    let rounds = graph(alloc, "f f * m ;")?.rounds()?;
+    let rounds = graph(alloc, "u u * m ;")?.rounds()?;
     assert_eq!(rt; rounds.as_slice(), [1, 1, 2].as_slice());
     Ok(())
 }

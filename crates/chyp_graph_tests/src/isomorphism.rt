@@ -55,6 +55,8 @@ fn parts_have_to_fit(rt: HostRuntime) -> Result<(), Fail> {
         ("f g *", "g f *", false),
         ("f s *", "f", false),
         ("sw", "id2", false),
+        ("m", "sw m ;", false),
+        ("u f * m ;", "u f * sw ; m ;", false),
         ("u v ; u w ; *", "u w ; u v ; *", true),
         ("u v ; u w ; *", "u v ; u v ; *", false),
     ] {

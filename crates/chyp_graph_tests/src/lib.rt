@@ -1,5 +1,6 @@
-//! Tests of the crates about terms and graphs: `chyp_term`, `chyp_graph`, `chyp_iso`, `chyp_laws` and
-//! `chyp_judge`, with a module for each, and the small terms that they share in `diagrams`.
+//! Tests of the crates about terms and graphs: `chyp_term`, `chyp_theory`, `chyp_graph`, `chyp_iso`,
+//! `chyp_laws` and `chyp_judge`, with a module for each (`laws` for the two about laws), and the small
+//! terms that they share in `diagrams`.
 //!
 //! They have a crate of their own, as a crate with tests is proved twice, with them and without. It has
 //! no other code.

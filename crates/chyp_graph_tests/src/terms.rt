@@ -1,3 +1,5 @@
+ghost use Rattle.std.specs.Prelude.{◌≡◌, ◌+◌, ◌<◌, ◌^◌, length};
+
 use crate::diagrams::{permuted, rewired, term};
 use chyp_term::{
     Equation, Equations, Perm, Places, Shape, ShapeError, Step, StepList, Term, Terms, copy, depth,
@@ -6,15 +8,33 @@ use chyp_term::{
 use std::alloc::Global;
 use std::test::Fail;
 
+fn composed(alloc: Global, first: &[u32], second: &[u32]) -> Result<Perm, Fail>
+    requires { length first.now ≡ length second.now }
+{
+    let first = permuted(alloc, first)?;
+    let second = permuted(alloc, second)?;
+    Ok(first.compose(&second)?)
+}
+
+fn side_by_side(alloc: Global, first: &[u32], second: &[u32]) -> Result<Perm, Fail>
+    requires { length first.now + length second.now < 2 ^ 32 }
+{
+    let first = permuted(alloc, first)?;
+    let second = permuted(alloc, second)?;
+    Ok(first.beside(&second)?)
+}
+
 #[test]
-fn permutations_compose_and_stand_beside_each_other(rt: HostRuntime) -> Result<(), Fail> {
-    let alloc = rt.alloc();
-    let turned = permuted(alloc, &[1, 2, 0])?;
-    let crossed = permuted(alloc, &[1, 0, 2])?;
-    assert_eq!(rt; turned.compose(&crossed)?.places(), [2, 1, 0].as_slice());
-    let crossed = permuted(alloc, &[1, 0])?;
-    let wire = permuted(alloc, &[0])?;
-    assert_eq!(rt; crossed.beside(&wire)?.places(), [1, 0, 2].as_slice());
+fn permutations_compose(rt: HostRuntime) -> Result<(), Fail> {
+    let perm = composed(rt.alloc(), &[1, 2, 0], &[1, 0, 2])?;
+    assert_eq!(rt; perm.places(), [2, 1, 0].as_slice());
+    Ok(())
+}
+
+#[test]
+fn permutations_stand_beside_each_other(rt: HostRuntime) -> Result<(), Fail> {
+    let perm = side_by_side(rt.alloc(), &[1, 0], &[0])?;
+    assert_eq!(rt; perm.places(), [1, 0, 2].as_slice());
     Ok(())
 }
 
@@ -70,7 +90,12 @@ fn a_term_has_a_type_or_a_clash(rt: HostRuntime) -> Result<(), Fail> {
 #[test]
 fn a_term_that_is_not_typed_clashes(rt: HostRuntime) -> Result<(), Fail> {
     let alloc = rt.alloc();
-    assert!(rt; clashes(alloc, &term(alloc, "m m ;")?));
+    let term = term(alloc, "m m ;")?;
+    assert!(rt; clashes(alloc, &term));
+    assert_eq!(rt;
+        written(alloc, &copy(alloc, &term)?)?,
+        written(alloc, &term)?
+    );
     assert!(rt; clashes(alloc, &rewired(alloc, 3, &[1, 0])?));
     Ok(())
 }

@@ -11,9 +11,9 @@ use crate::{Iso, Scratch};
 use chyp_graph::Graph;
 
 /// An isomorphism from the one graph to the other that keeps names, sorts, ports by position, and
-/// both interfaces place by place; None where there is none. It takes no memory, and time in
-/// proportion to what hangs on the interfaces; a part without interface is tried once at each edge of
-/// the other graph, until it fits.
+/// both interfaces place by place; None where there is none. It takes no memory. What hangs on the
+/// interfaces is followed once; a part without interface is tried once at each edge of the other graph,
+/// until it fits.
 pub fn same<'s>(scratch: &'s mut Scratch, a: &Graph, b: &Graph) -> Option<Iso<'s>>
     requires first { HasRoomFor scratch.old.edges scratch.old.wires a.now }
     requires second { HasRoomFor scratch.old.edges scratch.old.wires b.now }

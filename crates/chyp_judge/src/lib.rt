@@ -8,5 +8,6 @@
 mod judged;
 mod step;
 
+pub use chyp_term::{Equation, Step};
 pub use judged::Judged;
 pub use step::judge;

@@ -1,6 +1,7 @@
 // Judging one step of a rewrite.
 ghost use Rattle.std.specs.Prelude.{◌≡◌, ◌≤◌, IfOk};
 ghost use Rattle.chyp_term.specs.Derivation.{IsEquation};
+ghost use Rattle.chyp_term.specs.Limits.{most_size};
 ghost use Rattle.chyp_term.specs.Measure.{size_of};
 ghost use Rattle.chyp_term.specs.Term.{morphism_of};
 ghost use Rattle.chyp_term.specs.declared.step.Step.TheVariants.{Refl};
@@ -22,8 +23,8 @@ use std::alloc::Global;
 /// `NoMemory` where the graphs of the terms can't be kept or compared.
 pub fn judge(alloc: Global, from: &Term, to: &Term, step: &Step) -> Result<Judged, NoMemory>
     requires equation { IsEquation (morphism_of from.now) (morphism_of to.now) }
-    requires small_from { size_of (morphism_of from.now) ≤ 200000 }
-    requires small_to { size_of (morphism_of to.now) ≤ 200000 }
+    requires small_from { size_of (morphism_of from.now) ≤ most_size }
+    requires small_to { size_of (morphism_of to.now) ≤ most_size }
     requires plain { step.now ≡ Refl }
     ensures { IfOk result (λ judged. IsJudgement (morphism_of from.now) (morphism_of to.now) judged) }
 {
@@ -36,8 +37,8 @@ pub fn judge(alloc: Global, from: &Term, to: &Term, step: &Step) -> Result<Judge
 /// Good exactly where the graphs of the terms are isomorphic.
 fn judge_by_laws(alloc: Global, from: &Term, to: &Term) -> Result<Judged, NoMemory>
     requires equation { IsEquation (morphism_of from.now) (morphism_of to.now) }
-    requires small_from { size_of (morphism_of from.now) ≤ 200000 }
-    requires small_to { size_of (morphism_of to.now) ≤ 200000 }
+    requires small_from { size_of (morphism_of from.now) ≤ most_size }
+    requires small_to { size_of (morphism_of to.now) ≤ most_size }
     ensures { IfOk result (λ judged. IsJudgement (morphism_of from.now) (morphism_of to.now) judged) }
 {
     graphs_decide_the_laws();

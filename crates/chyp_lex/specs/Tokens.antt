@@ -7,6 +7,10 @@ use Rattle.chyp_lex.specs.declared.token.TokenKind.TheVariants.{Number, Bad}
 use Rattle.chyp_lex.specs.declared.token.Token.{Token}
 use Rattle.chyp_lex.specs.Lexemes.{BeginsWith}
 
+-- the most bytes that a text may have
+abbrev pub text_limit : ℕ
+text_limit = 1048576
+
 -- the first n bytes of the text are a lexeme, and no lexeme that the text begins with is longer
 pub record IsLongest (text : List ℕ) (n : ℕ) (kind : Option TokenKind) : Type 0 where
   pub begins : BeginsWith text n kind

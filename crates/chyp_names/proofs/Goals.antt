@@ -13,7 +13,7 @@ use Rattle.chyp_term.specs.Morphism.{Morphism}
 use Rattle.chyp_syntax.specs.declared.statement.Ast.{Ast}
 use Rattle.chyp_syntax.specs.declared.statement.Ast.TheVariants.{LetDecl, RuleDecl, RewriteDecl}
 use Rattle.chyp_syntax.specs.Statement.{statement_of}
-use Rattle.chyp_env.specs.Limits.{IsWithinLimits}
+use Rattle.chyp_term.specs.Limits.{IsWithinLimits}
 use Rattle.chyp_env.specs.Site.{Site}
 use Rattle.chyp_names.specs.Elaboration.{expansion_at, terms_of}
 use Rattle.chyp_names.specs.Goals.{goal_term, goal_terms, FitBehind, IsSum}

@@ -20,7 +20,7 @@ use Rattle.chyp_env.specs.declared.chunk_view.ChunkView.{ChunkView}
 use Rattle.chyp_env.specs.ChunkView.{site_of}
 use Rattle.chyp_env.specs.Environment.{Sense, Binding, binding_of, is_bound}
 use Rattle.chyp_env.specs.Expansion.{plain_wires}
-use Rattle.chyp_env.specs.Limits.{most_ports}
+use Rattle.chyp_term.specs.Limits.{most_ports}
 use Rattle.chyp_env.specs.Site.{Site}
 use Rattle.chyp_env.specs.Sound.{IsSoundSense}
 use Rattle.chyp_names.specs.declared.body.Body.{Body}

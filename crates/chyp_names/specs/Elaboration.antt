@@ -64,7 +64,7 @@ abbrev pub steps_at : Site → StatementTree → List Reason
 steps_at site (rewrite name first steps) = map (λ step. reason_at site step.reason) steps
 steps_at site _ = []
 
--- the last step of a rewrite is a hole
+-- a step of a rewrite is a hole; the grammar lets only the last one be
 abbrev pub has_hole : StatementTree → Bool
 has_hole (rewrite name first steps) = list_any (λ step. is_none step.goal) steps
 has_hole _ = false
@@ -101,7 +101,7 @@ pub data IsRefused (site : Site) (tree : StatementTree) : Verdict → Type 0 whe
   unproved : {token : ℕ} → is_declared site ≡ false → is_import tree ≡ false → first_fault site tree ≡ None → AreWithinLimits tree (terms_of site tree)
       → AllHold (tests_at site tree) → first_unproved site tree ≡ Some token → IsRefused site tree (Unproved token)
 
--- a body holds the terms and the steps of the statement, and whether its last step is a hole
+-- a body holds the terms and the steps of the statement, and whether a step is a hole
 pub record IsBody (site : Site) (tree : StatementTree) (body : Body) : Type 0 where
   pub terms : morphisms_of body.terms ≡ terms_of site tree
   pub steps : reasons_of body.steps ≡ steps_at site tree

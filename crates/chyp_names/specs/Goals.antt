@@ -6,7 +6,7 @@ use Rattle.chyp_syntax.specs.Step.{StepTree, step_of}
 use Rattle.chyp_syntax.specs.Term.{tree_of}
 use Rattle.chyp_term.specs.Measure.{size_of}
 use Rattle.chyp_term.specs.Morphism.{Morphism}
-use Rattle.chyp_env.specs.Limits.{IsWithinLimits}
+use Rattle.chyp_term.specs.Limits.{IsWithinLimits}
 use Rattle.chyp_env.specs.Site.{Site, meaning_at}
 use Rattle.chyp_env.specs.Typing.{AllHold, tests_of}
 use Rattle.chyp_names.specs.Elaboration.{expansion_at}

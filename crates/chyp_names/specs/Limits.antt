@@ -3,7 +3,7 @@ use Rattle.std.specs.Prelude.{ℕ, ◌≤◌, List, All, sum_by}
 use Rattle.chyp_syntax.specs.Statement.{StatementTree, generator}
 use Rattle.chyp_term.specs.Morphism.{Morphism}
 use Rattle.chyp_term.specs.Measure.{size_of}
-use Rattle.chyp_env.specs.Limits.{most_ports, IsWithinLimits}
+use Rattle.chyp_term.specs.Limits.{most_ports, IsWithinLimits}
 
 -- the greatest size of all terms of a statement together
 abbrev pub most_together : ℕ

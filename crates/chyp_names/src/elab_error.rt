@@ -1,6 +1,5 @@
 // Why a statement has no body.
 use chyp_base::{NoMemory, Verdict};
-use std::alloc::AllocError;
 
 /// Why a statement has no body.
 #[derive(Debug, Drop)]
@@ -19,18 +18,6 @@ impl From<NoMemory> for ElabError {
     ghost from_gives = { λ _ error. error ≡ NoMemory };
 
     fn from(_: NoMemory) -> ElabError {
-        ElabError::NoMemory
-    }
-}
-
-impl From<AllocError> for ElabError {
-    ghost use Rattle.std.specs.Prelude.{◌≡◌};
-    ghost use Rattle.chyp_names.specs.declared.elab_error.ElabError.{ElabError};
-    ghost use Rattle.chyp_names.specs.declared.elab_error.ElabError.TheVariants.{NoMemory};
-
-    ghost from_gives = { λ _ error. error ≡ NoMemory };
-
-    fn from(_: AllocError) -> ElabError {
         ElabError::NoMemory
     }
 }

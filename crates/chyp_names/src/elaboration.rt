@@ -98,43 +98,6 @@ fn body(
     })
 }
 
-// What a statement means, where its terms share these plain wires.
-fn elaborate_with(
-    alloc: Global,
-    plain: &PlainWires,
-    module: &Name,
-    ast: &Ast,
-    chunk: &ChunkView<'_>,
-    env: &Env,
-) -> Result<Body, ElabError>
-    requires sentence { IsSentence chunk.now.tokens.now (statement_of ast.now) }
-    requires lent { IsLent chunk.now }
-    requires plain { ArePlain plain.now }
-    ensures passes { OnOk result (Passes (site_of «module».now chunk.now env.now) (statement_of ast.now)) }
-    ensures body { IfOk result (IsBody (site_of «module».now chunk.now env.now) (statement_of ast.now)) }
-    ensures typed { IfOk result (λ body. AreTypedAlike (morphisms_of body.terms)) }
-    ensures refused { (verdict : Verdict) → result ≡ Err (ElabError.Refused verdict) →
-        IsRefused (site_of «module».now chunk.now env.now) (statement_of ast.now) verdict }
-{
-    if let Some(verdict) = refused_by_names(ast, chunk, env) {
-        return Err(ElabError::Refused(verdict));
-    }
-    if !is_small(ast, chunk, env) {
-        return Err(ElabError::Refused(Verdict::TooBig));
-    }
-    match types_agree(alloc, plain, ast, chunk, env) {
-        Ok(()) => {}
-        Err(TypeFault::Fails { token }) => {
-            return Err(ElabError::Refused(Verdict::Mistyped { token }));
-        }
-        Err(TypeFault::NoMemory) => return Err(ElabError::NoMemory),
-    }
-    if let Some(token) = first_unproved(ast, chunk, env) {
-        return Err(ElabError::Refused(Verdict::Unproved { token }));
-    }
-    Ok(body(alloc, plain, module, ast, chunk, env)?)
-}
-
 /// What a statement means behind statements that have made this environment, in the module of this
 /// name, which is empty for the main text. `ast` is the tree of the statement.
 ///
@@ -162,11 +125,22 @@ pub fn elaborate(
     ensures refused { (verdict : Verdict) → result ≡ Err (ElabError.Refused verdict) →
         IsRefused (site_of «module».now chunk.now env.now) (statement_of ast.now) verdict }
 {
-    match env.plain() {
-        Some(plain) => elaborate_with(alloc, plain, module, ast, chunk, env),
-        None => {
-            let plain = PlainWires::new(alloc)?;
-            elaborate_with(alloc, &plain, module, ast, chunk, env)
-        }
+    if let Some(verdict) = refused_by_names(ast, chunk, env) {
+        return Err(ElabError::Refused(verdict));
     }
+    if !is_small(ast, chunk, env) {
+        return Err(ElabError::Refused(Verdict::TooBig));
+    }
+    let plain = env.plain_wires()?;
+    match types_agree(alloc, &plain, ast, chunk, env) {
+        Ok(()) => {}
+        Err(TypeFault::Fails { token }) => {
+            return Err(ElabError::Refused(Verdict::Mistyped { token }));
+        }
+        Err(TypeFault::NoMemory) => return Err(ElabError::NoMemory),
+    }
+    if let Some(token) = first_unproved(ast, chunk, env) {
+        return Err(ElabError::Refused(Verdict::Unproved { token }));
+    }
+    Ok(body(alloc, &plain, module, ast, chunk, env)?)
 }

@@ -7,8 +7,8 @@ ghost use Rattle.chyp_names.specs.Elaboration.{expansion_at, terms_of};
 ghost use Rattle.chyp_names.specs.Goals.{IsSum, goal_terms};
 ghost use Rattle.chyp_term.specs.Measure.{size_of};
 ghost use Rattle.chyp_term.specs.Morphism.{Morphism};
-ghost use Rattle.chyp_env.specs.Known.{AreSizes};
-ghost use Rattle.chyp_env.specs.Limits.{IsWithinLimits};
+ghost use Rattle.chyp_env.specs.Sizes.{AreSizes};
+ghost use Rattle.chyp_term.specs.Limits.{IsWithinLimits};
 ghost use Rattle.chyp_names.specs.Limits.{AreWithinLimits, most_together};
 
 use chyp_env::{ChunkView, Env, Sizes, sizes_of};
@@ -69,10 +69,7 @@ fn sum_with_goals(before: u64, steps: &[StepAst], chunk: &ChunkView<'_>, env: &E
 {
     let mut sum = before;
     for step in steps {
-        let Some(more) = sum_with_goal(sum, step, chunk, env) else {
-            return None;
-        };
-        sum = more;
+        sum = sum_with_goal(sum, step, chunk, env)?;
     }
     Some(sum)
 }
@@ -83,10 +80,8 @@ fn sum_of_two(left: &TermAst, right: &TermAst, chunk: &ChunkView<'_>, env: &Env)
     ensures { IsSum 0
         (expansion_at (site_of [] chunk.now env.now) (tree_of left.now) ∷ expansion_at (site_of [] chunk.now env.now) (tree_of right.now) ∷ []) result }
 {
-    match sum_with(0, left, chunk, env) {
-        Some(sum) => sum_with(sum, right, chunk, env),
-        None => None,
-    }
+    let sum = sum_with(0, left, chunk, env)?;
+    sum_with(sum, right, chunk, env)
 }
 
 // The size of the terms of a rewrite together, None where they don't fit.
@@ -100,10 +95,8 @@ fn sum_of_rewrite(
     ensures { IsSum 0
         (expansion_at (site_of [] chunk.now env.now) (tree_of first.now) ∷ goal_terms (site_of [] chunk.now env.now) steps.now) result }
 {
-    match sum_with(0, first, chunk, env) {
-        Some(sum) => sum_with_goals(sum, steps, chunk, env),
-        None => None,
-    }
+    let sum = sum_with(0, first, chunk, env)?;
+    sum_with_goals(sum, steps, chunk, env)
 }
 
 /// Whether a statement is within the limits. None of its terms is made.

@@ -6,7 +6,7 @@ ghost use Rattle.chyp_term.specs.Morphism.{generator as a_generator};
 ghost use Rattle.chyp_term.specs.Term.{morphism_of, morphisms_of};
 ghost use Rattle.chyp_env.specs.ChunkView.{IsLent, site_of};
 ghost use Rattle.chyp_env.specs.Expansion.{plain_wires};
-ghost use Rattle.chyp_env.specs.Limits.{most_ports};
+ghost use Rattle.chyp_term.specs.Limits.{most_ports};
 ghost use Rattle.chyp_env.specs.PlainWires.{ArePlain};
 ghost use Rattle.chyp_env.specs.Typing.{AllHold};
 ghost use Rattle.chyp_names.specs.Elaboration.{generator_name, terms_of, tests_at};

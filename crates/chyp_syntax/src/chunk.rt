@@ -18,7 +18,11 @@ pub struct Chunk {
 
 /// Cuts the tokens of a text in front of each statement keyword.
 ///
-/// The chunks tile the tokens in order. `NoMemory` may come at any point.
+/// The chunks tile the tokens in order.
+///
+/// # Errors
+///
+/// `NoMemory` where the chunks can't be kept.
 pub fn chunks(alloc: Global, tokens: &[Token]) -> Result<Vec<Chunk>, NoMemory>
     requires { length tokens.now < 2 ^ 32 }
     ensures chunks { IfOk result (λ chunks. AreChunks tokens.now chunks.items) }

@@ -17,9 +17,11 @@ use std::alloc::Global;
 
 /// The tree of a chunk, where its tokens are a sentence.
 ///
-/// `Syntax` comes exactly where they are none. Its `token` is the first with which the tokens up to
-/// it begin no sentence, whatever follows; where there is no such token, it is their number.
-/// `NoMemory` may come at any point.
+/// # Errors
+///
+/// `Syntax` exactly where they are none. Its `token` is the first with which the tokens up to it begin
+/// no sentence, whatever follows; where there is no such token, it is their number. `NoMemory` where
+/// the tree can't be kept.
 pub fn parse(alloc: Global, tokens: &[Token]) -> Result<Ast, ParseError>
     requires { length tokens.now < 2 ^ 32 }
     ensures tree { IfOk result (λ ast. IsSentence tokens.now (statement_of ast)) }

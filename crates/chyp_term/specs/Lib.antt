@@ -6,5 +6,6 @@ pub mod Derivation
 pub mod Rewriting
 pub mod Positions
 pub mod Measure
+pub mod Limits
 pub mod Equation
 pub mod Step

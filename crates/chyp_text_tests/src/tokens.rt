@@ -72,10 +72,11 @@ const CASES: [Case; 10] = [
 fn cuts_texts_into_tokens(rt: HostRuntime) -> Result<(), NoMemory> {
     for case in CASES {
         let tokens = lex(rt.alloc(), case.text, b"")?;
-        assert_eq!(rt; tokens.len(), case.tokens.len());
-        for (token, row) in tokens.iter().zip(case.tokens) {
-            assert_eq!(rt; (token.kind, token.start, token.len, token.value), *row);
-        }
+        let rows: Vec<Row> = tokens
+            .iter()
+            .map(|token| (token.kind, token.start, token.len, token.value))
+            .collect(rt.alloc())?;
+        assert_eq!(rt; rows.as_slice(), case.tokens);
     }
     Ok(())
 }

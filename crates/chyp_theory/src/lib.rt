@@ -48,34 +48,3 @@ pub fn wires_are_decided(s: &Term, t: &Term)
     requires right_typed { IsTyped (morphism_of t.now) }
     ensures { IsDecidedByWiring (morphism_of s.now) (morphism_of t.now) }
 {}
-
-#[cfg(test)]
-mod tests {
-    use super::*;
-    use chyp_base::Sorts;
-    use chyp_term::{Perm, Places};
-    use std::test::Fail;
-
-    #[test]
-    fn laws_are_called_for_two_terms(rt: HostRuntime) -> Result<(), Fail> {
-        let alloc = rt.alloc();
-        derivations_are_equations();
-        types_are_decided();
-        wires_are_permutations();
-        let left = Perm::new(Places::from_vec(Vec::new(alloc)));
-        let right = Perm::new(Places::from_vec(Vec::new(alloc)));
-        let (Some(left), Some(right)) = (left, right) else {
-            return Err(Fail::new("the empty list is a permutation"));
-        };
-        let left = Term::Perm {
-            sorts: Sorts::from_vec(Vec::new(alloc)),
-            perm: left,
-        };
-        let right = Term::Perm {
-            sorts: Sorts::from_vec(Vec::new(alloc)),
-            perm: right,
-        };
-        wires_are_decided(&left, &right);
-        Ok(())
-    }
-}

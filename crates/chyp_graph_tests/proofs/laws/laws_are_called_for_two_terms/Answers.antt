@@ -9,3 +9,15 @@ nothing_is = record { size = refl; within = λ i h. absurd (omega arith); apart 
 -- both are the diagram without wires
 pub derivation_gives_same-requires : goal.derivation_gives_same-requires
 derivation_gives_same-requires c = rw (c.in_ok-left.ensures, c.in_ok-right.ensures) (same nothing_is)
+
+pub wires_are_decided-requires-clause-left_wires : goal.wires_are_decided-requires-clause-left_wires
+wires_are_decided-requires-clause-left_wires c = rw (c.in_ok-left.ensures) tt
+
+pub wires_are_decided-requires-clause-right_wires : goal.wires_are_decided-requires-clause-right_wires
+wires_are_decided-requires-clause-right_wires c = rw (c.in_ok-right.ensures) tt
+
+pub wires_are_decided-requires-clause-left_typed : goal.wires_are_decided-requires-clause-left_typed
+wires_are_decided-requires-clause-left_typed c = rw (c.in_ok-left.ensures) nothing_is
+
+pub wires_are_decided-requires-clause-right_typed : goal.wires_are_decided-requires-clause-right_typed
+wires_are_decided-requires-clause-right_typed c = rw (c.in_ok-right.ensures) nothing_is

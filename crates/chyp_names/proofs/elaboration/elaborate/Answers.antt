@@ -4,7 +4,7 @@ use Rattle.chyp_base.specs.declared.verdict.Verdict.TheVariants.{TooBig, Mistype
 use Rattle.chyp_syntax.specs.Statement.{statement_of}
 use Rattle.chyp_env.specs.ChunkView.{site_of}
 use Rattle.chyp_names.specs.Elaboration.{IsRefused, too_big, mistyped, unproved}
-use Rattle.chyp_names.proofs.elaboration.elaborate_with.Goals as goal
+use Rattle.chyp_names.proofs.elaboration.elaborate.Goals as goal
 
 pub returns-then-not-is_small-clause-refused : goal.returns-then-not-is_small-clause-refused
 returns-then-not-is_small-clause-refused c = λ verdict e.
