@@ -6,7 +6,7 @@ use std::sync::ledger::{Blank, Book, Ledger, Share};
 
 /// How many steps were taken, seen by contracts as that number.
 ///
-/// It has no bytes at run time, and nothing but `tick` changes it. `G` names the ledger that the steps
+/// It has no bytes at run time, and `tick` adds one to it. `G` names the ledger that the steps
 /// are entered in.
 #[derive(Drop)]
 pub struct Steps<G: Ledger> {

@@ -4,6 +4,7 @@ ghost use Rattle.std.specs.Option.{option_map_or};
 ghost use Rattle.chyp_term.specs.Derivation.{empty};
 ghost use Rattle.chyp_env.specs.Entry.{entry_of, sense_of};
 ghost use Rattle.chyp_env.specs.Environment.{binding_of, is_bound};
+ghost use Rattle.chyp_env.specs.Kept.{AreKnown};
 ghost use Rattle.chyp_env.specs.Known.{IsKnown};
 ghost use Rattle.chyp_env.specs.PlainWires.{ArePlain};
 ghost use Rattle.chyp_env.specs.Site.{term_of};
@@ -130,11 +131,23 @@ impl Env {
         ensures ok { OnOk result (self.new ≡ self.old ++ entry_of entry ∷ []) }
         ensures err { OnErr result (self.new ≡ self.old) }
     {
+        let (name, known) = self.prepare(&entry)?;
+        // The name is new, so nothing is dropped; as a call, it takes one step of the proof.
+        drop(self.entries.insert(name, Kept { entry, known })?);
+        Ok(())
+    }
+
+    /// The name of an entry to be bound, in bytes, and what is known of its term. The plain wires are
+    /// kept from then on.
+    fn prepare(&mut self, entry: &Entry) -> Result<(Vec<u8>, Option<Known>), NoMemory>
+        requires { IsSoundSense (sense_of entry.now.meaning) }
+        ensures same { self.new ≡ self.old }
+        ensures ok { IfOk result (λ made. (made.0.items ≡ entry.now.name) × AreKnown (sense_of entry.now.meaning) made.1) }
+    {
         self.keep_plain()?;
         let alloc = self.allocator();
         let known = known_of(alloc, &entry.meaning)?;
         let name = Vec::from_slice(alloc, entry.name.as_str().as_bytes())?;
-        self.entries.insert(name, Kept { entry, known })?;
-        Ok(())
+        Ok((name, known))
     }
 }
