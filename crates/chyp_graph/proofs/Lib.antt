@@ -13,3 +13,6 @@ pub mod Steps
 pub mod Numbering
 pub mod Removing
 pub mod Dating
+pub mod Sweeping
+pub mod Joined
+pub mod Anchoring

@@ -9,3 +9,6 @@ pub mod Draft
 pub mod Joining
 pub mod Rounds
 pub mod Removal
+pub mod Component
+pub mod Sweep
+pub mod Pattern

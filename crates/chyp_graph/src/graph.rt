@@ -193,6 +193,20 @@ impl Graph {
         rounds_in(alloc, self, &order)
     }
 
+    /// Every graph is valid, and not too large.
+    pub(crate) fn valid(&self)
+        ensures valid { IsValid self.now }
+        ensures few_edges { length self.now.edges < 2 ^ 31 }
+        ensures few_wires { length self.now.wires < 2 ^ 31 }
+    {
+        let _ = &self.edges;
+    }
+
+    /// The allocator that it was made with.
+    pub(crate) fn allocator(&self) -> Global {
+        *self.wires.allocator()
+    }
+
     /// The number of edges.
     pub fn edge_count(&self) -> u32
         ensures count { result ≡ length self.now.edges }

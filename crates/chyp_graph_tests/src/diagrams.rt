@@ -68,6 +68,8 @@ fn ports(name: &str) -> (u32, u32) {
 fn named_by(alloc: Global, word: &str) -> Result<Term, Fail> {
     match word {
         "sw" => rewired(alloc, 2, &[1, 0]),
+        "id0" => rewired(alloc, 0, &[]),
+        "id" => rewired(alloc, 1, &[0]),
         "id2" => rewired(alloc, 2, &[0, 1]),
         _ => {
             let (dom, cod) = ports(word);
