@@ -1,0 +1,515 @@
+"""A second reading of docs/LANGUAGE.md: what `chyp check` is to write, found by other means.
+
+It shares nothing with the program. Terms are drawn as graphs and compared by search, with no thought of
+speed, and only for texts within the limit on their length.
+"""
+from collections import namedtuple
+
+STATEMENTS = {"gen", "let", "rule", "rewrite", "import", "show", "type"}
+RESERVED = STATEMENTS | {"id", "id0", "sw", "by", "as", "simp", "with"}
+SYMBOLS = ":=;*()[],-?"
+NAMES = ("identifier", "dotted")
+MOST_PARENTHESES = 256
+MOST_PORTS = 64
+MOST_GENERATORS, MOST_SIZE, MOST_DEPTH, MOST_TOGETHER = 1024, 200_000, 256, 4_000_000
+
+Token = namedtuple("Token", "kind start end value")
+
+
+# ## Tokens
+
+
+def character_at(text, at):
+    """The well-formed character at a place, or None."""
+    for end in range(at + 1, min(at + 4, len(text)) + 1):
+        try:
+            return text[at:end].decode()
+        except UnicodeDecodeError:
+            pass
+    return None
+
+
+def end_of_identifier(text, at):
+    """The end of the identifier at a place, or the place where there is none."""
+    end, before = at, ""
+    while True:
+        character = character_at(text, end)
+        if character is None or not (before + character).isidentifier():
+            return end
+        end, before = end + len(character.encode()), "a"
+
+
+def word_at(text, at):
+    """The name or the reserved word at a place, or None."""
+    end = end_of_identifier(text, at)
+    if end == at:
+        return None
+    kind = "identifier"
+    while text[end : end + 1] == b"." and end_of_identifier(text, end + 1) > end + 1:
+        kind, end = "dotted", end_of_identifier(text, end + 1)
+    word = text[at:end].decode()
+    return Token(word if word in RESERVED else kind, at, end, word)
+
+
+def number_at(text, at):
+    """The number at a place, which is bad where it has more than 64 bits, or None."""
+    end = at
+    while text[end : end + 1].isdigit():
+        end += 1
+    if end == at:
+        return None
+    value = int(text[at:end])
+    return Token("number", at, end, value) if value < 2**64 else Token("bad", at, end, None)
+
+
+def symbol_at(text, at):
+    """The symbol at a place, or else the bad token there."""
+    if text.startswith(b"->", at):
+        return Token("->", at, at + 2, None)
+    character = character_at(text, at)
+    if character and character in SYMBOLS:
+        return Token(character, at, at + 1, None)
+    return Token("bad", at, at + (len(character.encode()) if character else 1), None)
+
+
+def tokens_of(text):
+    """The tokens of a text."""
+    tokens, at = [], 0
+    while at < len(text):
+        if text[at] in b" \t\r\n":
+            at += 1
+        elif text[at] == ord("#"):
+            end = text.find(b"\n", at)
+            at = len(text) if end < 0 else end
+        else:
+            tokens.append(word_at(text, at) or number_at(text, at) or symbol_at(text, at))
+            at = tokens[-1].end
+    return tokens
+
+
+def chunks_of(tokens):
+    """The tokens of each statement."""
+    chunks = []
+    for token in tokens:
+        if token.kind in STATEMENTS or not chunks:
+            chunks.append([])
+        chunks[-1].append(token)
+    return chunks
+
+
+# ## Sentences
+
+Name = namedtuple("Name", "token")
+Swap = namedtuple("Swap", "token places")
+Row = namedtuple("Row", "kind parts semicolons")
+Step = namedtuple("Step", "equals goal rules")
+Sentence = namedtuple("Sentence", "kind terms steps ports shown")
+IDENTITY, EMPTY = Swap(None, [0]), Swap(None, [])
+
+
+class NoSentence(Exception):
+    """The number of the first token with which the tokens begin no sentence."""
+
+
+class Parser:
+    """Reads the sentence of a chunk from the left. It stops at the first token that nothing allows."""
+
+    def __init__(self, chunk):
+        self.chunk, self.at = chunk, 0
+
+    def kind(self):
+        return self.chunk[self.at].kind if self.at < len(self.chunk) else None
+
+    def expect(self, *kinds):
+        if self.kind() not in kinds:
+            raise NoSentence(self.at)
+        self.at += 1
+        return self.at - 1
+
+    def accept(self, kind):
+        return self.kind() == kind and self.expect(kind) is not None
+
+    def number(self):
+        return self.chunk[self.expect("number")].value
+
+    def term(self, depth=0):
+        parts, semicolons = [self.tensor(depth)], []
+        while self.kind() == ";":
+            semicolons.append(self.expect(";"))
+            parts.append(self.tensor(depth))
+        return Row("chain", parts, semicolons) if semicolons else parts[0]
+
+    def tensor(self, depth):
+        parts = [self.atom(depth)]
+        while self.accept("*"):
+            parts.append(self.atom(depth))
+        return Row("beside", parts, []) if len(parts) > 1 else parts[0]
+
+    def atom(self, depth):
+        if self.kind() == "(" and depth == MOST_PARENTHESES:
+            raise NoSentence(self.at)
+        at = self.expect(*NAMES, "id", "id0", "sw", "(")
+        kind = self.chunk[at].kind
+        if kind == "(":
+            term = self.term(depth + 1)
+            self.expect(")")
+            return term
+        if kind == "sw":
+            return Swap(at, self.places())
+        return {"id": IDENTITY, "id0": EMPTY}.get(kind, Name(at))
+
+    def places(self):
+        if not self.accept("["):
+            return [1, 0]
+        places = [self.number()]
+        while self.accept(","):
+            places.append(self.number())
+        self.expect("]")
+        return places
+
+    def rule(self):
+        self.accept("-")
+        return self.expect(*NAMES)
+
+    def reason(self):
+        if not self.accept("by"):
+            return []
+        if not self.accept("simp"):
+            return [self.rule()]
+        self.expect("(")
+        rules = [self.rule()]
+        while self.accept(","):
+            rules.append(self.rule())
+        self.expect(")")
+        return rules
+
+    def steps(self):
+        steps = []
+        while self.kind() == "=":
+            equals = self.expect("=")
+            goal = None if self.accept("?") else self.term()
+            steps.append(Step(equals, goal, self.reason()))
+            if goal is None:
+                break
+        return steps
+
+    def sentence(self):
+        kind = self.chunk[self.expect("gen", "let", "rule", "rewrite", "import", "show")].kind
+        terms, steps, ports, shown = [], [], [], None
+        if kind == "show":
+            shown = self.expect(*NAMES)
+        else:
+            self.expect("identifier")
+        if kind == "import" and self.accept("as"):
+            self.expect("identifier")
+        if kind in ("gen", "rule", "rewrite"):
+            self.expect(":")
+        if kind == "gen":
+            ports.append(self.number())
+            self.expect("->")
+            ports.append(self.number())
+        if kind == "let":
+            self.expect("=")
+        if kind in ("let", "rule", "rewrite"):
+            terms.append(self.term())
+        if kind == "rule":
+            steps.append(Step(self.expect("="), self.term(), []))
+        if kind == "rewrite":
+            steps = self.steps()
+        if self.at < len(self.chunk):
+            raise NoSentence(self.at)
+        terms += [step.goal for step in steps if step.goal is not None]
+        return Sentence(kind, terms, steps, ports, shown)
+
+
+# ## Terms
+
+Generator = namedtuple("Generator", "name inputs outputs")
+Wires = namedtuple("Wires", "places")
+Joined = namedtuple("Joined", "kind first rest")
+Measures = namedtuple("Measures", "size depth generators")
+Entry = namedtuple("Entry", "kind term type measures", defaults=(None, None, None))
+
+
+class Mistyped(Exception):
+    """The number of the token at which a term turns out to have no type."""
+
+
+class Reader:
+    """Reads the terms of a chunk, where names stand for what they do in an environment."""
+
+    def __init__(self, chunk, names):
+        self.chunk, self.names = chunk, names
+
+    def entry(self, token):
+        return self.names.get(self.chunk[token].value)
+
+    def measures(self, tree):
+        if isinstance(tree, Name):
+            return self.entry(tree.token).measures
+        if isinstance(tree, Swap):
+            return Measures(1 + len(tree.places), 1, 0)
+        return halved([self.measures(part) for part in tree.parts], joined_measures)
+
+    def type(self, tree):
+        if isinstance(tree, Name):
+            return self.entry(tree.token).type
+        if isinstance(tree, Swap):
+            if sorted(tree.places) != list(range(len(tree.places))):
+                raise Mistyped(tree.token)
+            return len(tree.places), len(tree.places)
+        if tree.kind == "chain":
+            return self.type_of_chain(tree)
+        types = [self.type(part) for part in tree.parts]
+        return sum(inputs for inputs, _ in types), sum(outputs for _, outputs in types)
+
+    def type_of_chain(self, tree):
+        inputs, outputs = self.type(tree.parts[0])
+        for semicolon, part in zip(tree.semicolons, tree.parts[1:]):
+            wanted, given = self.type(part)
+            if outputs != wanted:
+                raise Mistyped(semicolon)
+            outputs = given
+        return inputs, outputs
+
+    def term(self, tree):
+        if isinstance(tree, Name):
+            return self.entry(tree.token).term
+        if isinstance(tree, Swap):
+            return Wires(tree.places)
+        return halved([self.term(part) for part in tree.parts], lambda a, b: Joined(tree.kind, a, b))
+
+
+def halved(parts, join):
+    """The first half of the parts, rounded down, joined with the rest; both are joined the same way."""
+    if len(parts) == 1:
+        return parts[0]
+    half = len(parts) // 2
+    return join(halved(parts[:half], join), halved(parts[half:], join))
+
+
+def joined_measures(first, rest):
+    return Measures(1 + first.size + rest.size, 1 + max(first.depth, rest.depth), first.generators + rest.generators)
+
+
+def names_in(tree):
+    """The tokens of the names in a tree."""
+    if isinstance(tree, Name):
+        return [tree.token]
+    return [token for part in tree.parts for token in names_in(part)] if isinstance(tree, Row) else []
+
+
+# ## Graphs
+
+Edge = namedtuple("Edge", "name sources targets")
+
+
+class Graph:
+    """The graph of a term: a wire is a number, and an edge knows the wires that it joins."""
+
+    def __init__(self, term):
+        self.inputs = list(range(width(term)))
+        self.wires, self.edges = len(self.inputs), []
+        self.outputs = self.draw(term, self.inputs)
+        self.makers = {wire: (k, i) for k, edge in enumerate(self.edges) for i, wire in enumerate(edge.targets)}
+        self.users = {wire: (k, i) for k, edge in enumerate(self.edges) for i, wire in enumerate(edge.sources)}
+
+    def draw(self, term, live):
+        if isinstance(term, Wires):
+            return [live[place] for place in term.places]
+        if isinstance(term, Generator):
+            targets = list(range(self.wires, self.wires + term.outputs))
+            self.wires += term.outputs
+            self.edges.append(Edge(term.name, live, targets))
+            return targets
+        if term.kind == "chain":
+            return self.draw(term.rest, self.draw(term.first, live))
+        middle = width(term.first)
+        return self.draw(term.first, live[:middle]) + self.draw(term.rest, live[middle:])
+
+
+def width(term):
+    """How many inputs a term has."""
+    if isinstance(term, Wires):
+        return len(term.places)
+    if isinstance(term, Generator):
+        return term.inputs
+    return width(term.first) + (width(term.rest) if term.kind == "beside" else 0)
+
+
+def followed(one, other, wires, edges, open_wires, open_edges):
+    """The pairs with all that hangs on them, or None where they don't fit: wires and edges by their partners."""
+    wires, edges = dict(wires), dict(edges)
+    while open_wires or open_edges:
+        if open_wires:
+            a, b = open_wires.pop()
+            if wires.get(a, b) != b or (a not in wires and b in wires.values()):
+                return None
+            if a in wires:
+                continue
+            wires[a] = b
+            for mine, theirs in (one.makers.get(a), other.makers.get(b)), (one.users.get(a), other.users.get(b)):
+                if (mine is None) != (theirs is None) or (mine and mine[1] != theirs[1]):
+                    return None
+                open_edges += [(mine[0], theirs[0])] if mine else []
+        else:
+            a, b = open_edges.pop()
+            if edges.get(a, b) != b or (a not in edges and b in edges.values()):
+                return None
+            if a in edges:
+                continue
+            mine, theirs = one.edges[a], other.edges[b]
+            if mine.name != theirs.name:
+                return None
+            edges[a] = b
+            open_wires += zip(mine.sources + mine.targets, theirs.sources + theirs.targets)
+    return wires, edges
+
+
+def is_extended(one, other, wires, edges):
+    """Whether the pairs can be extended to all edges and wires."""
+    left = [k for k in range(len(one.edges)) if k not in edges]
+    if not left:
+        return len(wires) == one.wires
+    found = (followed(one, other, wires, edges, [], [(left[0], k)]) for k in range(len(other.edges)))
+    return any(pairs and is_extended(one, other, *pairs) for pairs in found)
+
+
+def are_equal(first, second):
+    """Whether the graphs of two terms of one type are isomorphic, with inputs and outputs fixed."""
+    one, other = Graph(first), Graph(second)
+    if one.wires != other.wires or len(one.edges) != len(other.edges):
+        return False
+    ends = [*zip(one.inputs, other.inputs), *zip(one.outputs, other.outputs)]
+    pairs = followed(one, other, {}, {}, ends, [])
+    return pairs is not None and is_extended(one, other, *pairs)
+
+
+# ## Verdicts
+
+
+class Refused(Exception):
+    """The words of a verdict, and the number of the token that it names, if it names one."""
+
+
+def check_names(sentence, reader):
+    """Refuses the first name at fault."""
+    in_terms = {token for term in sentence.terms for token in names_in(term)}
+    in_reasons = {token for step in sentence.steps for token in step.rules}
+    if sentence.shown is not None and reader.entry(sentence.shown) is None:
+        raise Refused("unknown", sentence.shown)
+    for token in sorted(in_terms | in_reasons):
+        entry = reader.entry(token)
+        if entry is None:
+            raise Refused("unknown", token)
+        if entry.kind == "broken":
+            raise Refused("broken", token)
+        if entry.kind not in (("generator", "term") if token in in_terms else ("law", "unproved")):
+            raise Refused("kind", token)
+
+
+def check_limits(sentence, reader):
+    """Refuses what is too big."""
+    measures = [reader.measures(term) for term in sentence.terms]
+    for each in measures:
+        if each.generators > MOST_GENERATORS or each.size > MOST_SIZE or each.depth > MOST_DEPTH:
+            raise Refused("too-big", None)
+    if any(ports > MOST_PORTS for ports in sentence.ports) or sum(each.size for each in measures) > MOST_TOGETHER:
+        raise Refused("too-big", None)
+
+
+def check_types(sentence, reader):
+    """Refuses the first token at which terms have no type, or not one type."""
+    try:
+        types = [reader.type(term) for term in sentence.terms[:1]]
+        for step in sentence.steps:
+            if step.goal is not None and reader.type(step.goal) != types[0]:
+                raise Mistyped(step.equals)
+    except Mistyped as found:
+        raise Refused("type", *found.args) from None
+
+
+def check_steps(sentence, reader):
+    """Refuses a rewrite that uses an unproved one, that needs rules, or that has a step that is not good."""
+    for token in [token for step in sentence.steps for token in step.rules]:
+        if reader.entry(token).kind == "unproved":
+            raise Refused("unproved", token)
+    if any(step.rules and step.goal is not None for step in sentence.steps):
+        raise Refused("not-built", None)
+    terms = [reader.term(term) for term in sentence.terms]
+    for number, (before, after) in enumerate(zip(terms, terms[1:]), 1):
+        if not are_equal(before, after):
+            raise Refused(f"step {number} differs", None)
+    if not sentence.steps or sentence.steps[-1].goal is None:
+        raise Refused("open", None)
+
+
+def entry_of(sentence, reader):
+    """What the name of a statement that nothing refuses stands for."""
+    if sentence.kind == "gen":
+        term = Generator(reader.chunk[1].value, *sentence.ports)
+        return Entry("generator", term, tuple(sentence.ports), Measures(1 + sum(sentence.ports), 1, 1))
+    if sentence.kind == "let":
+        (tree,) = sentence.terms
+        return Entry("term", reader.term(tree), reader.type(tree), reader.measures(tree))
+    return Entry("law")
+
+
+def judged(chunk, names):
+    """The entry of a statement that is good; otherwise it is refused."""
+    try:
+        sentence = Parser(chunk).sentence()
+    except NoSentence as found:
+        raise Refused("syntax", *found.args) from None
+    if sentence.kind == "import":
+        raise Refused("not-built", None)
+    if sentence.kind != "show" and chunk[1].value in names:
+        raise Refused("declared", 1)
+    reader = Reader(chunk, names)
+    check_names(sentence, reader)
+    check_limits(sentence, reader)
+    check_types(sentence, reader)
+    if sentence.kind == "rewrite":
+        check_steps(sentence, reader)
+    return entry_of(sentence, reader)
+
+
+# ## Reports
+
+
+def place_of(text, at):
+    """The line and the column of a byte, both from 1."""
+    line, start = text.count(b"\n", 0, at) + 1, text.rfind(b"\n", 0, at) + 1
+    return f"{line}:{at - start + 1}"
+
+
+def place_in(text, chunk, token):
+    """The place of a token of a chunk, or just behind the last one."""
+    return place_of(text, chunk[token].start if token < len(chunk) else chunk[-1].end)
+
+
+def line_of(text, chunk, names):
+    """The report's line on a statement, and whether it is good; its name is bound."""
+    is_stray = chunk[0].kind not in STATEMENTS
+    shown = chunk[1].value if not is_stray and len(chunk) > 1 and chunk[1].kind in NAMES else "-"
+    entry = Entry("unproved" if chunk[0].kind == "rewrite" else "broken")
+    is_good = False
+    try:
+        entry, is_good = judged(chunk, names), True
+        verdict = "proved" if chunk[0].kind == "rewrite" else "ok"
+    except Refused as found:
+        verdict, token = found.args
+        verdict += "" if token is None else f" at {place_in(text, chunk, token)}"
+    if chunk[0].kind in ("gen", "let", "rule", "rewrite") and len(chunk) > 1 and chunk[1].kind == "identifier":
+        names.setdefault(chunk[1].value, entry)
+    kind = "stray" if is_stray else chunk[0].kind
+    return f"{place_of(text, chunk[0].start)} {kind} {shown} {verdict}\n", is_good
+
+
+def report(text):
+    """What `chyp check` writes on a text, and its status."""
+    names = {}
+    lines = [line_of(text, chunk, names) for chunk in chunks_of(tokens_of(text))]
+    good = sum(is_good for _, is_good in lines)
+    total = f"total {len(lines)} good {good}\n"
+    return ("".join(line for line, _ in lines) + total).encode(), 0 if good == len(lines) else 1
