@@ -16,17 +16,14 @@ kept-none seen found n s f =
       once = λ i j k a b. let c : slice_get [] i ≡ Some k = ap (λ xs. slice_get xs i) (sym f) ∙ a in cc;
     }
 
-get-below : (seen : List Bool) (found : List ℕ) → IsKept seen found → (i k : ℕ) → slice_get found i ≡ Some k → k < length seen
-get-below seen found t i k h = slice_get-length seen k true (t.marked_if_found k (member-Contains found k (get-member found i k h)))
-
 pub kept-below : (seen : List Bool) (found : List ℕ) → IsKept seen found → (i k : ℕ) → slice_get found i ≡ Some k → k < length seen
-kept-below seen found t i k h = get-below seen found t i k h
+kept-below seen found t i k h = slice_get-length seen k true (t.marked_if_found k (member-Contains found k (get-member found i k h)))
 
 pub kept-few : (seen : List Bool) (found : List ℕ) → IsKept seen found → length found ≤ length seen
 kept-few seen found t =
     pigeonhole (length seen) found
     (λ i j h l e. t.once i j (slice_index found i) (get-index found i h) (get-index found j l ∙ ap (λ x. Some x) (sym e)))
-    (λ i h. get-below seen found t i (slice_index found i) (get-index found i h))
+    (λ i h. kept-below seen found t i (slice_index found i) (get-index found i h))
 
 pub kept-push : (seen : List Bool) (found after : List ℕ) (k : ℕ) → IsKept seen found → k < length seen → (Contains found k → ⊥) → after ≡ found ++ k ∷ [] → IsKept (slice_set seen k true) after
 kept-push seen found after k t b new is = subst (IsKept (slice_set seen k true)) (sym is)
