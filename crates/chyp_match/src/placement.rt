@@ -6,7 +6,8 @@ use chyp_graph::{Anchor, EdgeId, Graph, Pattern, WireId};
 
 /// The number of placements of the pattern in the graph, or 2^64 - 1 where there are more: the
 /// product, over the components of the pattern, of the number of edges with the name of the
-/// component's first edge, or of wires with the sort of its one wire. It takes no memory.
+/// component's first edge, or of wires with the sort of its one wire. It takes no memory, and time in
+/// proportion to the number of components times the size of the graph.
 pub fn placements(pattern: &Pattern, graph: &Graph) -> u64
     ensures { ArePlacements pattern.now graph.now result }
 {
