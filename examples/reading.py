@@ -158,14 +158,16 @@ class Parser:
             return Swap(at, self.places())
         return {"id": IDENTITY, "id0": EMPTY}.get(kind, Name(at))
 
-    def places(self):
-        if not self.accept("["):
-            return [1, 0]
-        places = [self.number()]
+    def listed(self, item, closing):
+        """Items with commas between them, and what closes the list."""
+        items = [item()]
         while self.accept(","):
-            places.append(self.number())
-        self.expect("]")
-        return places
+            items.append(item())
+        self.expect(closing)
+        return items
+
+    def places(self):
+        return self.listed(self.number, "]") if self.accept("[") else [1, 0]
 
     def rule(self):
         self.accept("-")
@@ -177,11 +179,7 @@ class Parser:
         if not self.accept("simp"):
             return [self.rule()]
         self.expect("(")
-        rules = [self.rule()]
-        while self.accept(","):
-            rules.append(self.rule())
-        self.expect(")")
-        return rules
+        return self.listed(self.rule, ")")
 
     def steps(self):
         steps = []
