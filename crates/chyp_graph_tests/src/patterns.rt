@@ -47,6 +47,7 @@ fn patterns_have_placements(rt: HostRuntime) -> Result<(), Fail> {
         ("u id * m ;", "u u * m ;", 2),
         ("id id *", "f", 4),
         ("id0", "f", 1),
+        ("f g * f *", "f g * f *", 4),
         ("f s *", "f", 0),
     ];
     for (pattern, target, count) in cases {

@@ -13,7 +13,7 @@ use Rattle.chyp_graph.specs.declared.anchor.Anchor.TheVariants.{Edge, Wire}
 use Rattle.chyp_graph.proofs.Anchoring.{AreThoseBelow, those-end, those-none, those-push, those-skip}
 use Rattle.chyp_graph.proofs.Members.{Member, get-member, map-member, member-split}
 use Rattle.chyp_graph.proofs.Ports.{member-Contains, take-suc}
-use Rattle.chyp_match.specs.Placements.{ArePlacements, AreCounts, IsCount, IsNamed, IsOfSort, IsThere, MayBegin, product}
+use Rattle.chyp_match.specs.Placements.{ArePlacements, AreCounts, BeginAlike, IsCount, IsKnownBefore, IsNamed, IsOfSort, IsThere, MayBegin, product}
 
 -- ## counting
 
@@ -64,6 +64,14 @@ pub sort-count : (l g : PlainGraph) (w : ℕ) (sort : Sort) (n : ℕ) → slice_
 sort-count l g w sort n is c =
     count-same (IsOfSort g sort) (MayBegin l g (Wire w)) n (λ j p. (sort, is, p))
     (λ j q. let both : Some q.0 ≡ Some sort = sym q.1 ∙ is in let one : q.0 ≡ sort = cc in subst (λ s. IsOfSort g s j) one q.2) c
+
+-- components that begin alike may begin in as many ways
+pub alike-count : (l g : PlainGraph) (a b : Anchor) (n : ℕ) → BeginAlike l a b → IsCount (MayBegin l g a) n → IsCount (MayBegin l g b) n
+alike-count l g (Edge j) (Edge k) n t c = named-count l g k t.1 t.0.name n t.3 (sym t.4) (count-same (MayBegin l g (Edge j)) (IsNamed g t.0.name) n
+    (λ i q. let both : Some q.0 ≡ Some t.0 = sym q.1 ∙ t.2 in let one : q.0 ≡ t.0 = cc in subst (λ (e : EdgePart). IsNamed g e.name i) one q.2) (λ i p. (t.0, t.2, p)) c)
+alike-count l g (Wire v) (Wire w) n t c = count-same (MayBegin l g (Wire v)) (MayBegin l g (Wire w)) n (λ j q. (q.0, sym t ∙ q.1, q.2)) (λ j q. (q.0, t ∙ q.1, q.2)) c
+alike-count l g (Edge j) (Wire w) n t c = absurd t
+alike-count l g (Wire v) (Edge k) n t c = absurd t
 
 -- ## anchors
 
@@ -122,3 +130,18 @@ product-more l g k n m r a at t c is =
 
 pub product-end : (l : Parts) (g : PlainGraph) (k n : ℕ) → length l.anchors ≤ k → IsProductOf l g k n → ArePlacements l g n
 product-end l g k n b t = record { counts = t.counts; are = subst (λ others. AreCounts l.graph g others t.counts) (take_all k l.anchors b) t.are; is = t.is }
+
+pub get-some : {A : Type 0} (xs : List A) (i : ℕ) → i < length xs → (x : A) × (slice_get xs i ≡ Some x)
+get-some [] i h = absurd (omega arith)
+get-some (x ∷ xs) zero h = (x, refl)
+get-some (x ∷ xs) (suc i) h = get-some xs i (omega arith)
+
+pub known-none : (l : Parts) (g : PlainGraph) (n : ℕ) → IsKnownBefore l g 0 n
+known-none l g n j a e h = absurd (omega arith)
+
+pub known-next : (l : Parts) (g : PlainGraph) (k n : ℕ) (a : Anchor) → slice_get l.anchors k ≡ Some a → IsCount (MayBegin l.graph g a) n → IsKnownBefore l g (k + 1) n
+known-next l g k n a at c j b e h =
+    let i : j ≡ k = omega arith in
+    let both : Some b ≡ Some a = sym h ∙ ap (slice_get l.anchors) i ∙ at in
+    let is : a ≡ b = cc in
+    subst (λ a. IsCount (MayBegin l.graph g a) n) is c

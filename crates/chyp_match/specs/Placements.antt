@@ -1,5 +1,5 @@
 -- How many placements a pattern has in a graph.
-use Rattle.std.specs.Prelude.{ℕ, ◌*◌, ◌-◌, ◌^◌, ◌<◌, ◌≡◌, min, List, [], ◌∷◌, length, Some, slice_get}
+use Rattle.std.specs.Prelude.{ℕ, ◌+◌, ◌*◌, ◌-◌, ◌^◌, ◌<◌, ◌≡◌, min, List, [], ◌∷◌, length, Some, slice_get}
 use Rattle.chyp_base.specs.declared.sort.Sort.{Sort}
 use Rattle.chyp_graph.specs.Component.{AreThose}
 use Rattle.chyp_graph.specs.Pattern.{Parts}
@@ -32,6 +32,17 @@ IsThere g (Wire w) = w < length g.wires
 abbrev pub MayBegin : PlainGraph → PlainGraph → Anchor → ℕ → Type 0
 MayBegin l g (Edge k) j = (e : EdgePart) × (slice_get l.edges k ≡ Some e) × IsNamed g e.name j
 MayBegin l g (Wire w) j = (sort : Sort) × (slice_get l.wires w ≡ Some sort) × IsOfSort g sort j
+
+-- both are edges of one name, or wires of one sort
+abbrev pub BeginAlike : PlainGraph → Anchor → Anchor → Type 0
+BeginAlike l (Edge j) (Edge k) = (d : EdgePart) × (e : EdgePart) × (slice_get l.edges j ≡ Some d) × (slice_get l.edges k ≡ Some e) × (d.name ≡ e.name)
+BeginAlike l (Wire v) (Wire w) = slice_get l.wires v ≡ slice_get l.wires w
+BeginAlike l (Edge j) (Wire w) = ⊥
+BeginAlike l (Wire v) (Edge k) = ⊥
+
+-- the component before the component k, if there is one, may begin with so many edges or wires of g
+abbrev pub IsKnownBefore : Parts → PlainGraph → ℕ → ℕ → Type 0
+IsKnownBefore l g k n = (j : ℕ) (a : Anchor) → j + 1 ≡ k → slice_get l.anchors j ≡ Some a → IsCount (MayBegin l.graph g a) n
 
 -- of each anchor, with how many edges or wires of g its component may begin
 abbrev pub AreCounts : PlainGraph → PlainGraph → List Anchor → List ℕ → Type 0

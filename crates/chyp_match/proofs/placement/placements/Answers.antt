@@ -1,19 +1,22 @@
-use Rattle.std.proofs.Common.{subst, sym, arith}
-use Rattle.chyp_match.specs.Placements.{IsCount, IsThere, MayBegin}
-use Rattle.chyp_match.proofs.Counting.{anchor-there, product-end, product-more, product-none}
+use Rattle.std.proofs.Common.{◌<◌, length, refl, subst, arith}
+use Rattle.chyp_match.proofs.Counting.{get-some, known-none, product-end, product-more, product-none}
 use Rattle.chyp_match.proofs.placement.placements.Goals as goal
 
-pub choices-requires : goal.choices-requires
-choices-requires c = subst (λ g. IsThere g c.anchor.result) (sym c.graph-whole.ensures.graph) (anchor-there c.args.pattern.now.graph c.args.pattern.now.anchors c.graph-whole.ensures.anchors c.loop-k.k c.anchor.result c.anchor.ensures)
-
 pub loop-k-preserved : goal.loop-k-preserved
-loop-k-preserved c = product-more c.args.pattern.now c.args.graph.now c.loop-k.k c.loop-k.product c.choices.result c.saturating_mul-product.result c.anchor.result c.anchor.ensures c.loop-k.invariant
-    (subst (λ l. IsCount (MayBegin l c.args.graph.now c.anchor.result) c.choices.result) c.graph-whole.ensures.graph c.choices.ensures) c.saturating_mul-product.ensures
+loop-k-preserved c =
+    let l = c.args.pattern.now in
+    let k = c.loop-k.k in
+    let there : k < length l.anchors = subst (λ n. k < n) c.component_count-k-end.ensures c.loop-k-test.true in
+    let a = get-some l.anchors k there in
+    record {
+      product = product-more l c.args.graph.now k c.loop-k.product c.choices_at-count.result c.saturating_mul-product.result a.0 a.1 c.loop-k.invariant.product (c.choices_at-count.ensures k a.0 refl a.1) c.saturating_mul-product.ensures;
+      known = c.choices_at-count.ensures;
+    }
 
 pub loop-k-init : goal.loop-k-init
-loop-k-init c = product-none c.args.pattern.now c.args.graph.now
+loop-k-init c = record { product = product-none c.args.pattern.now c.args.graph.now; known = known-none c.args.pattern.now c.args.graph.now 0 }
 
 pub returns : goal.returns
 returns c =
     let n = c.component_count-k-end.ensures in
-    product-end c.args.pattern.now c.args.graph.now c.loop-k.k c.loop-k.product (omega (arith, c.loop-k-test.false)) c.loop-k.invariant
+    product-end c.args.pattern.now c.args.graph.now c.loop-k.k c.loop-k.product (omega (arith, c.loop-k-test.false)) c.loop-k.invariant.product
