@@ -1,19 +1,22 @@
 -- What a statement binds is determined by its verdict, and so are the verdicts of a text.
-use Rattle.std.proofs.Common.{◌≡◌, ℕ, suc, ◌-◌, IsTrue, List, [], ◌∷◌, ◌++◌, length, slice_get, refl, sym, ◌∙◌, ap, ap₂, subst}
+use Rattle.std.proofs.Common.{◌≡◌, ℕ, suc, ◌-◌, ◌&&◌, if◌then◌else◌, IsTrue, List, [], ◌∷◌, ◌++◌, length, Option, Some, None, slice_get, refl, sym, ◌∙◌, ap, ap₂, subst}
 use Rattle.chyp_base.specs.declared.verdict.Verdict.{Verdict}
+use Rattle.chyp_base.specs.declared.verdict.Verdict.TheVariants.{Accepted}
+use Rattle.chyp_lex.specs.Tokens.{token_text}
 use Rattle.chyp_lex.specs.declared.token.Token.{Token}
 use Rattle.chyp_lex.specs.declared.token.TokenKind.{TokenKind}
 use Rattle.chyp_lex.specs.declared.token.TokenKind.TheVariants.{WordGen, WordLet, WordRule, WordRewrite, WordImport, WordShow}
 use Rattle.chyp_syntax.specs.Failing.{ArePrefixesClosed, HasOneTree}
-use Rattle.chyp_syntax.specs.Heading.{declared_name}
+use Rattle.chyp_syntax.specs.Heading.{declared_name, declares, is_identifier}
 use Rattle.chyp_syntax.specs.Numbered.{NumberedToken, numbered, BeginsWithKind}
 use Rattle.chyp_syntax.specs.Sentence.{IsSentence, IsStatement, is_gen, is_let, is_rule, is_rewrite, is_import, is_import_as, is_show}
 use Rattle.chyp_syntax.specs.Statement.{StatementTree, generator as a_gen, definition, rule, rewrite, inclusion, showing}
 use Rattle.chyp_term.specs.Morphism.{Morphism, generator as a_generator}
 use Rattle.chyp_env.specs.Environment.{Sense, Binding, is_bound}
-use Rattle.chyp_env.specs.Site.{Site}
-use Rattle.chyp_names.specs.Binding.{Binds, nothing, again, anew, IsRewrite, StandsFor, a_declared_generator, a_term, a_rule, a_proved_rewrite, an_unproved_rewrite, a_broken_statement}
-use Rattle.chyp_names.specs.Elaboration.{terms_of}
+use Rattle.chyp_env.specs.Import.{all_passed_on, new_in}
+use Rattle.chyp_env.specs.Site.{Imported, there, Site}
+use Rattle.chyp_names.specs.Binding.{Binds, nothing, again, anew, imports, TakesIn, IsRewrite, StandsFor, a_declared_generator, a_term, a_rule, a_proved_rewrite, an_unproved_rewrite, a_broken_statement}
+use Rattle.chyp_names.specs.Elaboration.{prefix_at, terms_of}
 use Rattle.chyp_check.specs.Verdicts.{GetVerdicts, no_more, one_more, site}
 use Rattle.chyp_check.proofs.OneVerdict.{judged-once, none-some, some-once, true-false}
 
@@ -55,7 +58,7 @@ one-list : {A : Type 0} (x y a b : A) → ◌≡◌ {A = List A} (x ∷ []) (a �
 one-list x y a b e = cc
 
 -- what a name stands for is determined
-stands-once : ((tokens : List Token) → HasOneTree tokens) → (s : Site) (v : Verdict) (a b : Sense) → StandsFor s v a → StandsFor s v b → a ≡ b
+pub stands-once : ((tokens : List Token) → HasOneTree tokens) → (s : Site) (v : Verdict) (a b : Sense) → StandsFor s v a → StandsFor s v b → a ≡ b
 stands-once one s v a b (a_declared_generator {name} {dom} {cod} {label} {a = x} {b = y} t e) (a_declared_generator {name = n} {dom = d} {cod = c} {label = l} {a = z} {b = w} u f) =
     let trees = one s.tokens (a_gen name dom cod) (a_gen n d c) t u in
     let both : ◌≡◌ {A = List Morphism} (a_generator label x y ∷ []) (a_generator l z w ∷ []) = sym e ∙ ap (terms_of s) trees ∙ f in
@@ -101,17 +104,46 @@ stands-once one s v a b (a_broken_statement r p) (a_proved_rewrite t e g) = absu
 stands-once one s v a b (a_broken_statement r p) (an_unproved_rewrite q o) = absurd (r q)
 stands-once one s v a b (a_broken_statement r p) (a_broken_statement q o) = refl
 
+import-declares : (text : List ℕ) (keyword : Token) (rest : List Token) → keyword.kind ≡ WordImport → declared_name text (keyword ∷ rest) ≡ None
+import-declares text keyword [] e = refl
+import-declares text keyword (name ∷ rest) e = ap (λ k. if declares k && is_identifier name.kind then Some (token_text text name) else None) e
+
+-- an import declares no name
+pub imports-nothing : (s : Site) (imported : ℕ) (prefix : Option ℕ) (declares : List ℕ) → IsSentence s.tokens (inclusion imported prefix) → declared_name s.text s.tokens ≡ Some declares → ⊥
+imports-nothing s imported prefix declares t e =
+    let b = sentence-begins s.tokens (inclusion imported prefix) t in
+    none-some _ declares (import-declares s.text b.0 b.1 b.3) (ap (declared_name s.text) (sym b.2) ∙ e)
+
+takes-in : (i : Imported) (v : Verdict) (env : List Binding) → i ≡ there env → v ≡ Accepted → TakesIn i v
+takes-in i v env e f = subst (λ x. TakesIn x v) (sym e) (subst (TakesIn (there env)) (sym f) tt)
+
+inclusion-prefix : (word w : ℕ) (as_word a : Option ℕ) → inclusion word as_word ≡ inclusion w a → as_word ≡ a
+inclusion-prefix word w as_word a e = cc
+
+there-once : (env end : List Binding) → there env ≡ there end → env ≡ end
+there-once env end e = cc
+
 -- a statement binds in one way
-binds-once : ((tokens : List Token) → HasOneTree tokens) → (s : Site) (n : ℕ) (v : Verdict) (a b : List Binding) → Binds s n v a → Binds s n v b → a ≡ b
-binds-once one s n v a b (nothing e) (nothing f) = refl
-binds-once one s n v a b (nothing e) (again {name} f i) = absurd (none-some _ name e f)
-binds-once one s n v a b (nothing e) (anew {name} f i t) = absurd (none-some _ name e f)
-binds-once one s n v a b (again {name} f i) (nothing e) = absurd (none-some _ name e f)
+pub binds-once : ((tokens : List Token) → HasOneTree tokens) → (s : Site) (n : ℕ) (v : Verdict) (a b : List Binding) → Binds s n v a → Binds s n v b → a ≡ b
+binds-once one s n v a b (nothing e o) (nothing f q) = refl
+binds-once one s n v a b (nothing e o) (again {name} f i) = absurd (none-some _ name e f)
+binds-once one s n v a b (nothing e o) (anew {name} f i t) = absurd (none-some _ name e f)
+binds-once one s n v a b (nothing e o) (imports {env} f t i) = absurd (o (takes-in s.imported v env i f))
+binds-once one s n v a b (imports {env} f t i) (nothing e o) = absurd (o (takes-in s.imported v env i f))
+binds-once one s n v a b (imports {word} {as_word} f t i) (again {name} e g) = absurd (imports-nothing s word as_word name t e)
+binds-once one s n v a b (imports {word} {as_word} f t i) (anew {name} e g x) = absurd (imports-nothing s word as_word name t e)
+binds-once one s n v a b (again {name} e g) (imports {word} {as_word} f t i) = absurd (imports-nothing s word as_word name t e)
+binds-once one s n v a b (anew {name} e g x) (imports {word} {as_word} f t i) = absurd (imports-nothing s word as_word name t e)
+binds-once one s n v a b (imports {word} {as_word} {env} f t i) (imports {word = w} {as_word = p} {env = end} g u j) =
+    let prefixes = inclusion-prefix word w as_word p (one s.tokens (inclusion word as_word) (inclusion w p) t u) in
+    let envs = there-once env end (sym i ∙ j) in
+    ap₂ (λ x y. s.env ++ new_in s.env (all_passed_on (prefix_at s x) y)) prefixes envs
+binds-once one s n v a b (again {name} f i) (nothing e o) = absurd (none-some _ name e f)
 binds-once one s n v a b (again f i) (again g j) = refl
 binds-once one s n v a b (again {name} f i) (anew {name = other} g j t) =
     let same = some-once (declared_name s.text s.tokens) name other f g in
     absurd (true-false (is_bound s.env other) (subst (λ x. IsTrue (is_bound s.env x)) same i) j)
-binds-once one s n v a b (anew {name} f i t) (nothing e) = absurd (none-some _ name e f)
+binds-once one s n v a b (anew {name} f i t) (nothing e o) = absurd (none-some _ name e f)
 binds-once one s n v a b (anew {name} f i t) (again {name = other} g j) =
     let same = some-once (declared_name s.text s.tokens) other name g f in
     absurd (true-false (is_bound s.env name) (subst (λ x. IsTrue (is_bound s.env x)) same j) i)

@@ -13,7 +13,7 @@ use Rattle.chyp_term.specs.Derivation.{Derives}
 use Rattle.chyp_term.specs.Morphism.{Morphism}
 use Rattle.chyp_env.specs.Site.{Site, is_declared}
 use Rattle.chyp_env.specs.Typing.{AllHold, FailsFirst, Holds, Test}
-use Rattle.chyp_names.specs.Elaboration.{Passes, IsRefused, declared, import_, at_name, too_big, mistyped, unproved, tests_at, is_import, terms_of}
+use Rattle.chyp_names.specs.Elaboration.{Passes, IsRefused, declared, at_import, at_name, too_big, mistyped, unproved, tests_at, import_fault, terms_of}
 use Rattle.chyp_names.specs.Naming.{first_fault, first_unproved}
 use Rattle.chyp_check.specs.Judged.{IsJudged, no_sentence, refused, accepted, by_steps, is_rewrite}
 use Rattle.chyp_check.specs.Steps.{IsVerdictOnSteps, not_built, differs, unfinished, proved, equations_between, AreDerived}
@@ -25,7 +25,7 @@ not_before closed tokens j k f g h =
     let front : take (j + 1) (take k tokens) ≡ take (j + 1) tokens = take-take (j + 1) k tokens (omega arith) in
     f.refused short (subst IsPrefix front (closed (take k tokens) (j + 1) g.before))
 
-fails-once : ((tokens : List Token) → ArePrefixesClosed tokens) → (tokens : List Token) (j k : ℕ) → FailsAt tokens j → FailsAt tokens k → j ≡ k
+pub fails-once : ((tokens : List Token) → ArePrefixesClosed tokens) → (tokens : List Token) (j k : ℕ) → FailsAt tokens j → FailsAt tokens k → j ≡ k
 fails-once closed tokens j k f g = go (cases_lt j k) (cases_lt k j)
   where
     go : (j < k) ⊎ (k ≤ j) → (k < j) ⊎ (j ≤ k) → j ≡ k
@@ -49,7 +49,7 @@ slice_get-read (y ∷ ys) zero x e = (omega arith, cc)
 slice_get-read (y ∷ ys) (suc i) x e = let rest = slice_get-read ys i x e in (omega (arith, rest.0), rest.1)
 
 -- the first test that fails is one
-holds-fails : (tests : List Test) (k : ℕ) → AllHold tests → FailsFirst tests k → ⊥
+pub holds-fails : (tests : List Test) (k : ℕ) → AllHold tests → FailsFirst tests k → ⊥
 holds-fails tests k all f =
     let at = slice_get-read tests f.number (k, f.condition) f.there in
     f.fails (subst (λ (t : Test). Holds t.1) at.1 (all f.number (k, f.condition) at.0))
@@ -67,47 +67,47 @@ fails-first-once tests j k f g = go (cases_lt f.number g.number) (cases_lt g.num
         ap (λ (t : Test). t.0) both
 
 -- what nothing refuses is not refused
-passes-refused : (site : Site) (tree : StatementTree) (v : Verdict) → Passes site tree → IsRefused site tree v → ⊥
+pub passes-refused : (site : Site) (tree : StatementTree) (v : Verdict) → Passes site tree → IsRefused site tree v → ⊥
 passes-refused site tree v p (declared d) = true-false (is_declared site) d p.fresh
-passes-refused site tree v p (import_ f i) = true-false (is_import tree) i p.built
+passes-refused site tree v p (at_import f i) = none-some (import_fault site tree) v p.fits i
 passes-refused site tree v p (at_name f i e) = none-some (first_fault site tree) v p.known e
 passes-refused site tree v p (too_big f i e b) = b p.small
 passes-refused site tree v p (mistyped {token} f i e b t) = holds-fails (tests_at site tree) token p.typed t
 passes-refused site tree v p (unproved {token} f i e b t u) = none-some (first_unproved site tree) token p.proved u
 
-refused-once : (site : Site) (tree : StatementTree) (v w : Verdict) → IsRefused site tree v → IsRefused site tree w → v ≡ w
+pub refused-once : (site : Site) (tree : StatementTree) (v w : Verdict) → IsRefused site tree v → IsRefused site tree w → v ≡ w
 refused-once site tree v w (declared d) (declared e) = refl
-refused-once site tree v w (declared d) (import_ f i) = absurd (true-false _ d f)
+refused-once site tree v w (declared d) (at_import f i) = absurd (true-false _ d f)
 refused-once site tree v w (declared d) (at_name f i e) = absurd (true-false _ d f)
 refused-once site tree v w (declared d) (too_big f i e b) = absurd (true-false _ d f)
 refused-once site tree v w (declared d) (mistyped f i e b t) = absurd (true-false _ d f)
 refused-once site tree v w (declared d) (unproved f i e b t u) = absurd (true-false _ d f)
-refused-once site tree v w (import_ f i) (declared d) = absurd (true-false _ d f)
-refused-once site tree v w (import_ f i) (import_ g j) = refl
-refused-once site tree v w (import_ f i) (at_name g j e) = absurd (true-false _ i j)
-refused-once site tree v w (import_ f i) (too_big g j e b) = absurd (true-false _ i j)
-refused-once site tree v w (import_ f i) (mistyped g j e b t) = absurd (true-false _ i j)
-refused-once site tree v w (import_ f i) (unproved g j e b t u) = absurd (true-false _ i j)
+refused-once site tree v w (at_import f i) (declared d) = absurd (true-false _ d f)
+refused-once site tree v w (at_import f i) (at_import g j) = some-once (import_fault site tree) v w i j
+refused-once site tree v w (at_import f i) (at_name g j e) = absurd (none-some _ _ j i)
+refused-once site tree v w (at_import f i) (too_big g j e b) = absurd (none-some _ _ j i)
+refused-once site tree v w (at_import f i) (mistyped g j e b t) = absurd (none-some _ _ j i)
+refused-once site tree v w (at_import f i) (unproved g j e b t u) = absurd (none-some _ _ j i)
 refused-once site tree v w (at_name f i e) (declared d) = absurd (true-false _ d f)
-refused-once site tree v w (at_name f i e) (import_ g j) = absurd (true-false _ j i)
+refused-once site tree v w (at_name f i e) (at_import g j) = absurd (none-some _ _ i j)
 refused-once site tree v w (at_name f i e) (at_name g j h) = some-once (first_fault site tree) v w e h
 refused-once site tree v w (at_name f i e) (too_big g j h b) = absurd (none-some _ _ h e)
 refused-once site tree v w (at_name f i e) (mistyped g j h b t) = absurd (none-some _ _ h e)
 refused-once site tree v w (at_name f i e) (unproved g j h b t u) = absurd (none-some _ _ h e)
 refused-once site tree v w (too_big f i e b) (declared d) = absurd (true-false _ d f)
-refused-once site tree v w (too_big f i e b) (import_ g j) = absurd (true-false _ j i)
+refused-once site tree v w (too_big f i e b) (at_import g j) = absurd (none-some _ _ i j)
 refused-once site tree v w (too_big f i e b) (at_name g j h) = absurd (none-some _ _ e h)
 refused-once site tree v w (too_big f i e b) (too_big g j h c) = refl
 refused-once site tree v w (too_big f i e b) (mistyped g j h c t) = absurd (b c)
 refused-once site tree v w (too_big f i e b) (unproved g j h c t u) = absurd (b c)
 refused-once site tree v w (mistyped f i e b t) (declared d) = absurd (true-false _ d f)
-refused-once site tree v w (mistyped f i e b t) (import_ g j) = absurd (true-false _ j i)
+refused-once site tree v w (mistyped f i e b t) (at_import g j) = absurd (none-some _ _ i j)
 refused-once site tree v w (mistyped f i e b t) (at_name g j h) = absurd (none-some _ _ e h)
 refused-once site tree v w (mistyped f i e b t) (too_big g j h c) = absurd (c b)
 refused-once site tree v w (mistyped {token} f i e b t) (mistyped {token = other} g j h c u) = ap Mistyped (fails-first-once (tests_at site tree) token other t u)
 refused-once site tree v w (mistyped {token} f i e b t) (unproved g j h c u x) = absurd (holds-fails (tests_at site tree) token u t)
 refused-once site tree v w (unproved f i e b t u) (declared d) = absurd (true-false _ d f)
-refused-once site tree v w (unproved f i e b t u) (import_ g j) = absurd (true-false _ j i)
+refused-once site tree v w (unproved f i e b t u) (at_import g j) = absurd (none-some _ _ i j)
 refused-once site tree v w (unproved f i e b t u) (at_name g j h) = absurd (none-some _ _ e h)
 refused-once site tree v w (unproved f i e b t u) (too_big g j h c) = absurd (c b)
 refused-once site tree v w (unproved f i e b t u) (mistyped {token} g j h c x) = absurd (holds-fails (tests_at site tree) token t x)

@@ -4,7 +4,7 @@ use Rattle.std.proofs.lemmas.Bool.{false≢true}
 use Rattle.std.specs.List.{cons_option, filter_map}
 use Rattle.chyp_base.specs.Sort.{plain}
 use Rattle.chyp_base.specs.declared.verdict.Verdict.{Verdict}
-use Rattle.chyp_base.specs.declared.verdict.Verdict.TheVariants.{Proved, Accepted}
+use Rattle.chyp_base.specs.declared.verdict.Verdict.TheVariants.{Proved, Accepted, Clash}
 use Rattle.chyp_lex.specs.declared.token.Token.{Token}
 use Rattle.chyp_lex.specs.declared.token.TokenKind.TheVariants.{WordRewrite, WordShow}
 use Rattle.chyp_syntax.specs.Expected.{same_kind}
@@ -18,16 +18,18 @@ use Rattle.chyp_term.specs.Derivation.{IsEquation}
 use Rattle.chyp_env.specs.Expansion.{plain_wires}
 use Rattle.chyp_env.specs.Environment.{Sense, generator, abbreviation, law, unproved, broken, Binding}
 use Rattle.chyp_term.specs.Limits.{IsWithinLimits}
-use Rattle.chyp_env.specs.Site.{Site, binding_at}
+use Rattle.std.specs.Option.{option_map}
+use Rattle.chyp_env.specs.Import.{all_passed_on, first_clash}
+use Rattle.chyp_env.specs.Site.{Imported, nothing, absent, on_cycle, there, Site, binding_at}
 use Rattle.chyp_env.specs.Sound.{IsSound, IsSoundSense}
 use Rattle.chyp_names.specs.Binding.{IsRewrite, StandsFor, a_declared_generator, a_term, a_rule, a_proved_rewrite, an_unproved_rewrite, a_broken_statement}
-use Rattle.chyp_names.specs.Elaboration.{Passes, IsRefused, declared, import_, at_name, too_big, mistyped, unproved as rests_on_unproved, expansion_at, generator_name, terms_of}
+use Rattle.chyp_names.specs.Elaboration.{Passes, IsRefused, fault_of_module, import_fault, prefix_at, declared, at_import, at_name, too_big, mistyped, unproved as rests_on_unproved, expansion_at, generator_name, terms_of}
 use Rattle.chyp_names.specs.Naming.{Use, in_term, in_reason, in_show, fault_of, fault_in_reason, fault_in_term, fault_or_unknown, uses_of}
 use Rattle.chyp_names.specs.Typing.{AreTypedAlike}
 use Rattle.chyp_check.specs.Judged.{IsJudged, no_sentence, refused, accepted, by_steps, is_rewrite}
 use Rattle.chyp_check.specs.Steps.{IsVerdictOnSteps, not_built, differs, unfinished, proved}
 use Rattle.chyp_syntax.proofs.Verdicts.{same-kinds}
-use Rattle.chyp_check.proofs.OneBinding.{rewrite-begins, sentence-begins}
+use Rattle.chyp_check.proofs.OneBinding.{imports-nothing, rewrite-begins, sentence-begins}
 use Rattle.chyp_check.proofs.OneVerdict.{none-some, slice_get-read}
 use Rattle.chyp_check.proofs.SomeVerdict.{PassingTermsAreTyped}
 
@@ -69,9 +71,27 @@ first-kept f (x ∷ xs) v bad e = go (f x) refl e (first-kept f xs v bad)
     go None h i more = more i
     go (Some w) h i more = let same : w ≡ v = cc in bad x (h ∙ ap Some same)
 
+module-bad : (env : List Binding) (i : Imported) (prefix : Option (List ℕ)) (v : Verdict) → fault_of_module env i prefix ≡ Some v → IsBad v
+module-bad env nothing prefix v e = (λ p. absurd cc, λ p. absurd cc)
+module-bad env absent prefix v e = (λ p. absurd cc, λ p. absurd cc)
+module-bad env on_cycle prefix v e = (λ p. absurd cc, λ p. absurd cc)
+module-bad env (there bindings) prefix v e = go (first_clash env (all_passed_on prefix bindings)) e
+  where
+    go : (o : Option (List ℕ)) → option_map Clash o ≡ Some v → IsBad v
+    go None f = absurd cc
+    go (Some name) f = (λ p. absurd cc, λ p. absurd cc)
+
+import-bad : (s : Site) (tree : StatementTree) (v : Verdict) → import_fault s tree ≡ Some v → IsBad v
+import-bad s (inclusion imported prefix) v e = module-bad s.env s.imported (prefix_at s prefix) v e
+import-bad s (a_gen name dom cod) v e = absurd cc
+import-bad s (definition name tree) v e = absurd cc
+import-bad s (rule name left equals right) v e = absurd cc
+import-bad s (rewrite name first steps) v e = absurd cc
+import-bad s (showing name) v e = absurd cc
+
 pub refused-bad : (s : Site) (tree : StatementTree) (v : Verdict) → IsRefused s tree v → IsBad v
 refused-bad s tree v (declared d) = (λ p. absurd cc, λ p. absurd cc)
-refused-bad s tree v (import_ f i) = (λ p. absurd cc, λ p. absurd cc)
+refused-bad s tree v (at_import f i) = import-bad s tree v i
 refused-bad s tree v (at_name f i e) = first-kept (fault_of s) (uses_of tree) v (λ u h. use-fault s u v h) e
 refused-bad s tree v (too_big f i e b) = (λ p. absurd cc, λ p. absurd cc)
 refused-bad s tree v (mistyped f i e b t) = (λ p. absurd cc, λ p. absurd cc)
@@ -155,6 +175,6 @@ some-sense typed s env v name e (accepted {tree} t p n) = go tree t p n
     go (rule n left equals right) t p m =
         let alike = typed s env (rule n left equals right) p in
         record { sense = law (expansion_at s left) (expansion_at s right); stands = a_rule t refl; sound = (alike 0 (expansion_at s left) (omega arith) 1 (expansion_at s right) (omega arith), p.small.each 0 (expansion_at s left) (omega arith), p.small.each 1 (expansion_at s right) (omega arith)) }
-    go (inclusion imported prefix) t p m = absurd (false≢true (sym p.built))
+    go (inclusion imported prefix) t p m = absurd (imports-nothing s imported prefix name t e)
     go (showing n) t p m = absurd (shows-nothing s n name t e)
     go (rewrite n first steps) t p m = absurd (false≢true (sym m))

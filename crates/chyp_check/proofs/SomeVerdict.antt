@@ -16,7 +16,7 @@ use Rattle.chyp_term.specs.Limits.{IsWithinLimits, most_depth, most_generators, 
 use Rattle.chyp_env.specs.Site.{Site, is_declared}
 use Rattle.chyp_env.specs.Sound.{IsSound}
 use Rattle.chyp_env.specs.Typing.{AllHold, FailsFirst, Test}
-use Rattle.chyp_names.specs.Elaboration.{Passes, IsRefused, declared, import_, at_name, too_big, mistyped, unproved, tests_at, is_import, terms_of}
+use Rattle.chyp_names.specs.Elaboration.{Passes, IsRefused, declared, at_import, at_name, too_big, mistyped, unproved, tests_at, import_fault, terms_of}
 use Rattle.chyp_names.specs.Limits.{AreWithinLimits, HasFewPorts, most_together}
 use Rattle.chyp_names.specs.Naming.{first_fault, first_unproved}
 use Rattle.chyp_names.specs.Typing.{AreTypedAlike}
@@ -88,31 +88,31 @@ TestsAreDecided = (tests : List Test) → AllHold tests ⊎ ((token : ℕ) × Fa
 pub passes_or_refused : TestsAreDecided → (s : Site) (tree : StatementTree) → Passes s tree ⊎ Refusal s tree
 passes_or_refused tests s tree = name (is_declared s) refl
   where
-    end : is_declared s ≡ false → is_import tree ≡ false → first_fault s tree ≡ None → AreWithinLimits tree (terms_of s tree) → AllHold (tests_at s tree)
+    end : is_declared s ≡ false → import_fault s tree ≡ None → first_fault s tree ≡ None → AreWithinLimits tree (terms_of s tree) → AllHold (tests_at s tree)
         → (o : Option ℕ) → first_unproved s tree ≡ o → Passes s tree ⊎ Refusal s tree
-    end f i n b t None u = inl (record { fresh = f; built = i; known = n; small = b; typed = t; proved = u })
+    end f i n b t None u = inl (record { fresh = f; fits = i; known = n; small = b; typed = t; proved = u })
     end f i n b t (Some token) u = inr (record { verdict = Unproved token; is = unproved f i n b t u })
 
-    typing : is_declared s ≡ false → is_import tree ≡ false → first_fault s tree ≡ None → AreWithinLimits tree (terms_of s tree)
+    typing : is_declared s ≡ false → import_fault s tree ≡ None → first_fault s tree ≡ None → AreWithinLimits tree (terms_of s tree)
         → AllHold (tests_at s tree) ⊎ ((token : ℕ) × FailsFirst (tests_at s tree) token) → Passes s tree ⊎ Refusal s tree
     typing f i n b (inl t) = end f i n b t (first_unproved s tree) refl
     typing f i n b (inr t) = inr (record { verdict = Mistyped t.0; is = mistyped f i n b t.1 })
 
-    size : is_declared s ≡ false → is_import tree ≡ false → first_fault s tree ≡ None → AreWithinLimits tree (terms_of s tree) ⊎ ¬ AreWithinLimits tree (terms_of s tree)
+    size : is_declared s ≡ false → import_fault s tree ≡ None → first_fault s tree ≡ None → AreWithinLimits tree (terms_of s tree) ⊎ ¬ AreWithinLimits tree (terms_of s tree)
         → Passes s tree ⊎ Refusal s tree
     size f i n (inl b) = typing f i n b (tests (tests_at s tree))
     size f i n (inr b) = inr (record { verdict = TooBig; is = too_big f i n b })
 
-    fault : is_declared s ≡ false → is_import tree ≡ false → (o : Option Verdict) → first_fault s tree ≡ o → Passes s tree ⊎ Refusal s tree
+    fault : is_declared s ≡ false → import_fault s tree ≡ None → (o : Option Verdict) → first_fault s tree ≡ o → Passes s tree ⊎ Refusal s tree
     fault f i None n = size f i n (small_or_not tree (terms_of s tree))
     fault f i (Some v) n = inr (record { verdict = v; is = at_name f i n })
 
-    built : is_declared s ≡ false → (b : Bool) → is_import tree ≡ b → Passes s tree ⊎ Refusal s tree
-    built f false i = fault f i (first_fault s tree) refl
-    built f true i = inr (record { verdict = NotBuilt; is = import_ f i })
+    fits : is_declared s ≡ false → (o : Option Verdict) → import_fault s tree ≡ o → Passes s tree ⊎ Refusal s tree
+    fits f None i = fault f i (first_fault s tree) refl
+    fits f (Some v) i = inr (record { verdict = v; is = at_import f i })
 
     name : (b : Bool) → is_declared s ≡ b → Passes s tree ⊎ Refusal s tree
-    name false f = built f (is_import tree) refl
+    name false f = fits f (import_fault s tree) refl
     name true d = inr (record { verdict = Declared 1; is = declared d })
 
 -- of any two typed terms the laws derive the equation, or they don't

@@ -7,9 +7,9 @@ use Rattle.chyp_syntax.specs.declared.chunk.Chunk.{Chunk}
 use Rattle.chyp_syntax.specs.Failing.{ArePrefixesClosed, HasOneTree, IsSentenceOrFails}
 use Rattle.chyp_syntax.specs.Heading.{declared_name}
 use Rattle.chyp_env.specs.Environment.{Binding, is_bound}
-use Rattle.chyp_env.specs.Site.{Site}
+use Rattle.chyp_env.specs.Site.{nothing as none', Site}
 use Rattle.chyp_env.specs.Sound.{IsSound, IsSoundSense, HasDistinctNames}
-use Rattle.chyp_names.specs.Binding.{Binds, nothing, again, anew}
+use Rattle.chyp_names.specs.Binding.{Binds, nothing, again, anew, TakesIn}
 use Rattle.chyp_check.specs.Judged.{IsJudged}
 use Rattle.chyp_check.specs.Verdicts.{GetVerdicts, no_more, one_more, HaveOneListOfVerdicts, site, statements_of}
 use Rattle.chyp_check.proofs.OneBinding.{verdicts-once}
@@ -31,16 +31,16 @@ pub record Known : Type 0 where
   pub names : NamesStayDistinct
 
 -- what names stand for behind a statement
-record SomeBinding (s : Site) (n : ℕ) (v : Verdict) : Type 0 where
-  next : List Binding
-  binds : Binds s n v next
-  sound : IsSound next
+pub record SomeBinding (s : Site) (n : ℕ) (v : Verdict) : Type 0 where
+  pub next : List Binding
+  pub binds : Binds s n v next
+  pub sound : IsSound next
 
-some_binding : Known → (s : Site) (n : ℕ) (v : Verdict) → IsSound s.env → IsJudged s v → SomeBinding s n v
-some_binding known s n v sound judged = go (declared_name s.text s.tokens) refl
+pub some_binding : Known → (s : Site) (n : ℕ) (v : Verdict) → IsSound s.env → s.imported ≡ none' → IsJudged s v → SomeBinding s n v
+some_binding known s n v sound alone judged = go (declared_name s.text s.tokens) refl
   where
     go : (o : Option (List ℕ)) → declared_name s.text s.tokens ≡ o → SomeBinding s n v
-    go None e = record { next = s.env; binds = nothing e; sound = sound }
+    go None e = record { next = s.env; binds = nothing e (λ h. subst (λ i. TakesIn i v) alone h); sound = sound }
     go (Some name) e = bound (is_bound s.env name) refl
       where
         bound : (b : Bool) → is_bound s.env name ≡ b → SomeBinding s n v
@@ -68,7 +68,7 @@ some_verdicts known home text n env [] sound = record { verdicts = []; end = env
 some_verdicts known home text n env (statement ∷ rest) sound =
     let s = site home text env statement in
     let v = some_verdict known.sentences known.tests known.equations known.typed s sound in
-    let b = some_binding known s n v.verdict sound v.gets in
+    let b = some_binding known s n v.verdict sound refl v.gets in
     let more = some_verdicts known home text (suc n) b.next rest b.sound in
     record { verdicts = v.verdict ∷ more.verdicts; end = more.end; get = one_more v.gets b.binds more.get }
 

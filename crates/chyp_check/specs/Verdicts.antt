@@ -5,13 +5,13 @@ use Rattle.chyp_lex.specs.declared.token.Token.{Token}
 use Rattle.chyp_syntax.specs.declared.chunk.Chunk.{Chunk}
 use Rattle.chyp_syntax.specs.Heading.{chunk_tokens}
 use Rattle.chyp_env.specs.Environment.{Binding}
-use Rattle.chyp_env.specs.Site.{Site}
+use Rattle.chyp_env.specs.Site.{Site, nothing as nothing'}
 use Rattle.chyp_names.specs.Binding.{Binds}
 use Rattle.chyp_check.specs.Judged.{IsJudged}
 
 -- a statement of a module behind statements that have made this environment
 abbrev pub site : List ℕ → List ℕ → List Binding → List Token → Site
-site home text env statement = record { home = home; text = text; env = env; tokens = statement }
+site home text env statement = record { home = home; text = text; env = env; tokens = statement; imported = nothing' }
 
 -- Statements from this number on get these verdicts, where names stand for this in front of them, and for that behind them:
 -- each is judged behind those before it, and binds its name once it has its verdict.

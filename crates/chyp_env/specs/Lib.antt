@@ -2,6 +2,7 @@ pub mod ChunkView
 pub mod Coded
 pub mod Entry
 pub mod Environment
+pub mod Import
 pub mod Expansion
 pub mod Kept
 pub mod Known

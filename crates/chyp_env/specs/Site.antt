@@ -7,13 +7,22 @@ use Rattle.chyp_term.specs.Morphism.{Morphism, generator as a_generator}
 use Rattle.chyp_term.specs.Derivation.{empty}
 use Rattle.chyp_env.specs.Environment.{Sense, generator, abbreviation, Binding, binding_of, is_bound}
 
--- a statement by its tokens, with the name of its module (empty for the main text), the text of that module, and what
--- names stand for in front of the statement
+-- What a statement imports: nothing, where it is no import; a module that is absent; one that reaches itself; or one that
+-- is there, with the environment that its statements make.
+pub data Imported : Type 0 where
+  nothing : Imported
+  absent : Imported
+  on_cycle : Imported
+  there : (env : List Binding) → Imported
+
+-- a statement by its tokens, with the name of its module (empty for the main text), the text of that module, what names
+-- stand for in front of the statement, and what it imports
 pub record Site : Type 0 where
   pub home : List ℕ
   pub text : List ℕ
   pub env : List Binding
   pub tokens : List Token
+  pub imported : Imported
 
 -- the binding of the name that this token is
 abbrev pub binding_at : Site → ℕ → Option Binding

@@ -16,3 +16,10 @@ pub mod Dating
 pub mod Sweeping
 pub mod Joined
 pub mod Anchoring
+mod Examples
+pub mod Apart
+pub mod SameMembers
+pub mod Ordered
+pub mod Reached
+pub mod Listed
+pub mod IsomorphicValid

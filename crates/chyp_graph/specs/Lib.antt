@@ -12,3 +12,6 @@ pub mod Removal
 pub mod Component
 pub mod Sweep
 pub mod Pattern
+pub mod Occurrence
+pub mod Occurrences
+pub mod Replacement

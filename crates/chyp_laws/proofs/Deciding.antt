@@ -1,13 +1,14 @@
 -- Isomorphism of graphs is decided, and so are the laws.
-use Rattle.std.proofs.Common.{ℕ, zero, suc, ◌+◌, ◌<◌, ◌≡◌, List, [], map, length, Option, Some, None, option_map, slice_get, slice_index, ◌⊎◌, inl, inr, refl, sym, ◌∙◌, ap, ap₂, subst, arith, add-zero, zero-add}
+use Rattle.std.proofs.Common.{ℕ, zero, suc, ◌+◌, ◌<◌, ◌≡◌, List, [], map, length, Option, Some, None, option_map, slice_get, slice_index, ◌⊎◌, inl, inr, refl}
+use Rattle.std.proofs.Common.{sym, ◌∙◌, ap, ap₂, subst, arith, add-zero, zero-add}
 use Rattle.std.proofs.lemmas.Bool.{cases_eq}
 use Rattle.std.proofs.lemmas.List.{length-map}
 use Rattle.chyp_term.specs.Derivation.{Derives}
 use Rattle.chyp_term.specs.Morphism.{IsTyped, Morphism}
 use Rattle.chyp_term.specs.Perm.{count_from}
+use Rattle.chyp_term.proofs.Deciding.{Decided, decide-below, decide-both, decide-less, decide-numbers, decide-sort, decided-by, decide-list_of, HasList}
 use Rattle.chyp_term.proofs.Inverses.{Under-map-count}
 use Rattle.chyp_term.proofs.Permuted.{Under, length-count_from}
-use Rattle.chyp_theory.proofs.Deciding.{Decided, decide-below, decide-both, decide-less, decide-numbers, decide-sort, decided-by, decide-list_of, HasList}
 use Rattle.chyp_graph.specs.GraphOf.{graph_of}
 use Rattle.chyp_graph.specs.Isomorphism.{IsBijection, Isomorphic}
 use Rattle.chyp_graph.specs.PlainGraph.{Edge, PlainGraph, renamed, sources_of, targets_of}

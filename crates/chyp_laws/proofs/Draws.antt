@@ -10,7 +10,8 @@ use Rattle.chyp_theory.proofs.Running.{Alike, EdgeOf, label_of, run, src}
 use Rattle.chyp_graph.specs.GraphOf.{graph_of}
 use Rattle.chyp_graph.specs.PlainGraph.{PlainGraph}
 use Rattle.chyp_laws.proofs.Drawing.{Drawn, IsWire, drawn, edges_of, sort_at}
-use Rattle.chyp_laws.proofs.Edges.{draw, edge_at, edge_of, get-map, number, number_at}
+use Rattle.chyp_term.proofs.Permuted.{get-map}
+use Rattle.chyp_laws.proofs.Edges.{draw, edge_at, edge_of, number, number_at}
 
 pub record Draws (t : Morphism) (g : PlainGraph) : Type 0 where
   pub wire : Producer (EdgeOf t) → ℕ

@@ -1,9 +1,10 @@
 -- The graph of a term, drawn; its edges, numbered.
-use Rattle.std.proofs.Common.{ℕ, zero, suc, ◌+◌, ◌-◌, ◌<◌, ◌≤◌, ◌≡◌, List, [], ◌∷◌, ◌++◌, map, length, Option, Some, option_map, slice_get, ◌⊎◌, inl, inr, refl, sym, ◌∙◌, ap, subst, arith}
+use Rattle.std.proofs.Common.{ℕ, zero, suc, ◌+◌, ◌-◌, ◌<◌, ◌≤◌, ◌≡◌, List, [], ◌∷◌, ◌++◌, map, length, Option, Some, option_map, slice_get, ◌⊎◌, inl, inr, refl}
+use Rattle.std.proofs.Common.{sym, ◌∙◌, ap, subst, arith}
 use Rattle.std.proofs.lemmas.List.{length-map}
 use Rattle.std.proofs.lemmas.Bool.{cases_lt}
 use Rattle.chyp_term.specs.Morphism.{IsTyped, Morphism, beside, generator, permutation, then}
-use Rattle.chyp_term.proofs.Permuted.{found, get-append_left, get-append_right}
+use Rattle.chyp_term.proofs.Permuted.{found, get-map, get-append_left, get-append_right}
 use Rattle.chyp_term.proofs.Positions.{slice_get-length}
 use Rattle.chyp_theory.proofs.Running.{EdgeOf}
 use Rattle.chyp_graph.specs.GraphOf.{graph_of}
@@ -26,11 +27,6 @@ number (then s t) (inl e) = number s e
 number (then s t) (inr e) = length (edges_of s) + number t e
 number (beside s t) (inl e) = number s e
 number (beside s t) (inr e) = length (edges_of s) + number t e
-
-pub get-map : {A B : Type 0} (f : A → B) (xs : List A) (k : ℕ) → slice_get (map f xs) k ≡ option_map f (slice_get xs k)
-get-map f [] k = refl
-get-map f (x ∷ xs) zero = refl
-get-map f (x ∷ xs) (suc k) = get-map f xs k
 
 pub first : (s t : Morphism) (e : EdgeOf s) → slice_get (edges_of s) (number s e) ≡ Some e → ◌≡◌ {A = Option (EdgeOf s ⊎ EdgeOf t)} (slice_get (map (λ e. inl e) (edges_of s) ++ map (λ e. inr e) (edges_of t)) (number s e)) (Some (inl e))
 first s t e h =

@@ -21,7 +21,7 @@ use Rattle.chyp_env.specs.ChunkView.{site_of}
 use Rattle.chyp_env.specs.Environment.{Sense, Binding, binding_of, is_bound}
 use Rattle.chyp_env.specs.Expansion.{plain_wires}
 use Rattle.chyp_term.specs.Limits.{most_ports}
-use Rattle.chyp_env.specs.Site.{Site}
+use Rattle.chyp_env.specs.Site.{nothing as none', Site}
 use Rattle.chyp_env.specs.Sound.{IsSoundSense}
 use Rattle.chyp_names.specs.declared.body.Body.{Body}
 use Rattle.chyp_names.specs.Binding.{Binds, anew, IsRewrite, StandsFor, a_declared_generator, a_term, a_rule, a_proved_rewrite, an_unproved_rewrite, a_broken_statement, Elaborates, IsOutcome}
@@ -92,10 +92,10 @@ proved_fit site (showing name) k s p = absurd (true≢false (sym (ap is_rewrite_
 
 -- what a statement stands for that is neither accepted nor proved
 refused_stands : (home text : List ℕ) (env : List Binding) (first : Token) (rest : List Token) (verdict : Verdict) → (verdict ≡ Accepted → ⊥) → (verdict ≡ Proved → ⊥)
-    → StandsFor (record { home = home; text = text; env = env; tokens = first ∷ rest }) verdict (refused_sense (Some first.kind))
+    → StandsFor (record { home = home; text = text; env = env; tokens = first ∷ rest; imported = none' }) verdict (refused_sense (Some first.kind))
 refused_stands home text env first rest verdict accepted proved = go first.kind refl
   where
-    go : (kind : TokenKind) → first.kind ≡ kind → StandsFor (record { home = home; text = text; env = env; tokens = first ∷ rest }) verdict (refused_sense (Some kind))
+    go : (kind : TokenKind) → first.kind ≡ kind → StandsFor (record { home = home; text = text; env = env; tokens = first ∷ rest; imported = none' }) verdict (refused_sense (Some kind))
     go WordRewrite e = an_unproved_rewrite e proved
     go _ e = a_broken_statement (λ r. true≢false (sym (ap is_rewrite_word r) ∙ ap is_rewrite_word e)) accepted
 
@@ -119,7 +119,7 @@ declares_there text (first ∷ second ∷ rest) name e = both_first (declares fi
 
 module _ (home text : List ℕ) (env : List Binding) where
   abbrev site_at : List Token → Site
-  site_at tokens = record { home = home; text = text; env = env; tokens = tokens }
+  site_at tokens = record { home = home; text = text; env = env; tokens = tokens; imported = none' }
 
   accepted_body : (tokens : List Token) (body : Body) → Declares tokens → ¬ IsRewrite tokens → Elaborates (site_at tokens) body
       → IsFit (site_at tokens) Accepted (keyword_in tokens) (morphisms_of body.terms)

@@ -7,14 +7,15 @@ use Rattle.chyp_lex.specs.declared.token.Token.{Token}
 use Rattle.chyp_lex.specs.declared.token.TokenKind.TheVariants.{WordRewrite}
 use Rattle.chyp_syntax.specs.Heading.{declared_name}
 use Rattle.chyp_syntax.specs.Sentence.{IsSentence}
-use Rattle.chyp_syntax.specs.Statement.{StatementTree, generator as a_gen, definition, rule, rewrite}
+use Rattle.chyp_syntax.specs.Statement.{StatementTree, generator as a_gen, definition, rule, rewrite, inclusion}
 use Rattle.chyp_syntax.specs.Step.{StepTree}
 use Rattle.chyp_syntax.specs.Term.{TermTree}
 use Rattle.chyp_term.specs.Morphism.{Morphism, generator as a_generator}
 use Rattle.chyp_env.specs.Environment.{Sense, generator, abbreviation, law, unproved, broken, Binding, is_bound}
-use Rattle.chyp_env.specs.Site.{Site}
+use Rattle.chyp_env.specs.Import.{all_passed_on, new_in}
+use Rattle.chyp_env.specs.Site.{Imported, there, Site}
 use Rattle.chyp_names.specs.declared.body.Body.{Body}
-use Rattle.chyp_names.specs.Elaboration.{terms_of, Passes, IsBody}
+use Rattle.chyp_names.specs.Elaboration.{terms_of, prefix_at, Passes, IsBody}
 
 -- the statement begins with `rewrite`
 abbrev pub IsRewrite : List Token → Type 0
@@ -38,13 +39,20 @@ pub data StandsFor (site : Site) : Verdict → Sense → Type 0 where
   an_unproved_rewrite : {verdict : Verdict} → IsRewrite site.tokens → ¬ (verdict ≡ Proved) → StandsFor site verdict unproved
   a_broken_statement : {verdict : Verdict} → ¬ IsRewrite site.tokens → ¬ (verdict ≡ Accepted) → StandsFor site verdict broken
 
+-- the statement is an import that is accepted
+abbrev pub TakesIn : Imported → Verdict → Type 0
+TakesIn (there env) Accepted = Unit {0}
+TakesIn _ _ = ⊥
+
 -- What names stand for behind the statement, which has this number in its module. It binds its name, unless it declares
--- none or the name is bound already.
+-- none or the name is bound already. An accepted import binds each name of its module that isn't bound already.
 pub data Binds (site : Site) (number : ℕ) (verdict : Verdict) : List Binding → Type 0 where
-  nothing : declared_name site.text site.tokens ≡ None → Binds site number verdict site.env
+  nothing : declared_name site.text site.tokens ≡ None → ¬ TakesIn site.imported verdict → Binds site number verdict site.env
   again : {name : List ℕ} → declared_name site.text site.tokens ≡ Some name → IsTrue (is_bound site.env name) → Binds site number verdict site.env
   anew : {name : List ℕ} {sense : Sense} → declared_name site.text site.tokens ≡ Some name → is_bound site.env name ≡ false
       → StandsFor site verdict sense → Binds site number verdict (site.env ++ record { name = name; origin = (site.home, number); sense = sense } ∷ [])
+  imports : {word : ℕ} {as_word : Option ℕ} {env : List Binding} → verdict ≡ Accepted → IsSentence site.tokens (inclusion word as_word) → site.imported ≡ there env
+      → Binds site number verdict (site.env ++ new_in site.env (all_passed_on (prefix_at site as_word) env))
 
 -- a body is that of the statement, which is a sentence that nothing refuses
 pub record Elaborates (site : Site) (body : Body) : Type 0 where

@@ -1,9 +1,9 @@
 -- The terms and steps of a statement, and what refuses it: the first of these points that holds.
-use Rattle.std.specs.Prelude.{◌≡◌, ℕ, Bool, true, false, IsTrue, List, [], ◌∷◌, ◌++◌, map, None, Some, option_map, is_none, codes, if◌then◌else◌}
+use Rattle.std.specs.Prelude.{◌≡◌, ℕ, Bool, true, false, IsTrue, List, [], ◌∷◌, ◌++◌, map, Option, None, Some, option_map, is_none, codes, if◌then◌else◌}
 use Rattle.std.specs.List.{filter_map, list_any}
 use Rattle.std.specs.Option.{option_map_or}
 use Rattle.chyp_base.specs.declared.verdict.Verdict.{Verdict}
-use Rattle.chyp_base.specs.declared.verdict.Verdict.TheVariants.{Declared, NotBuilt, TooBig, Mistyped, Unproved}
+use Rattle.chyp_base.specs.declared.verdict.Verdict.TheVariants.{Declared, NotBuilt, NoModule, Cycle, Clash, TooBig, Mistyped, Unproved}
 use Rattle.chyp_syntax.specs.declared.step.ReasonAst.{ReasonAst}
 use Rattle.chyp_syntax.specs.declared.step.ReasonAst.TheVariants.{Plain, Rule, Simp}
 use Rattle.chyp_syntax.specs.declared.step.SignedAst.{SignedAst}
@@ -14,9 +14,10 @@ use Rattle.chyp_term.specs.Derivation.{empty}
 use Rattle.chyp_term.specs.Morphism.{Morphism, generator as a_generator}
 use Rattle.chyp_term.specs.Step.{Reason, by_laws, by_rule, by_simp, reasons_of}
 use Rattle.chyp_term.specs.Term.{morphisms_of}
-use Rattle.chyp_env.specs.Environment.{Sense, law}
+use Rattle.chyp_env.specs.Environment.{Sense, law, Binding}
+use Rattle.chyp_env.specs.Import.{all_passed_on, first_clash}
 use Rattle.chyp_env.specs.Expansion.{expansion_in, plain_wires}
-use Rattle.chyp_env.specs.Site.{Site, binding_at, is_declared, meaning_at}
+use Rattle.chyp_env.specs.Site.{Imported, nothing, absent, on_cycle, there, Site, binding_at, is_declared, meaning_at}
 use Rattle.chyp_env.specs.Typing.{Test, AllHold, FailsFirst}
 use Rattle.chyp_names.specs.declared.body.Body.{Body}
 use Rattle.chyp_names.specs.Limits.{AreWithinLimits}
@@ -78,27 +79,44 @@ abbrev pub is_import : StatementTree → Bool
 is_import (inclusion imported prefix) = true
 is_import _ = false
 
+-- the prefix of an import
+abbrev pub prefix_at : Site → Option ℕ → Option (List ℕ)
+prefix_at site token = option_map (text_at site.text site.tokens) token
+
+-- What is wrong with an import, None where it is in order: its module is absent, or reaches itself, or a name would be bound
+-- to a second statement. (Where nothing is known of its module it isn't built yet.)
+abbrev pub fault_of_module : List Binding → Imported → Option (List ℕ) → Option Verdict
+fault_of_module env nothing prefix = Some NotBuilt
+fault_of_module env absent prefix = Some (NoModule 1)
+fault_of_module env on_cycle prefix = Some (Cycle 1)
+fault_of_module env (there bindings) prefix = option_map Clash (first_clash env (all_passed_on prefix bindings))
+
+-- what is wrong with a statement as an import; one that is no import is in order
+abbrev pub import_fault : Site → StatementTree → Option Verdict
+import_fault site (inclusion imported prefix) = fault_of_module site.env site.imported (prefix_at site prefix)
+import_fault site _ = None
+
 -- nothing refuses the statement
 pub record Passes (site : Site) (tree : StatementTree) : Type 0 where
   pub fresh : is_declared site ≡ false
-  pub built : is_import tree ≡ false
+  pub fits : import_fault site tree ≡ None
   pub known : first_fault site tree ≡ None
   pub small : AreWithinLimits tree (terms_of site tree)
   pub typed : AllHold (tests_at site tree)
   pub proved : first_unproved site tree ≡ None
 
 -- The statement is refused with this verdict, that of the first of these points that holds: its name is bound already; it
--- is an import, which gets `not-built`; a name that it uses is at fault; it passes a limit; its terms have no types, or
+-- is an import that isn't in order; a name that it uses is at fault; it passes a limit; its terms have no types, or
 -- types that don't agree; it rests on a rewrite that is not proved.
 pub data IsRefused (site : Site) (tree : StatementTree) : Verdict → Type 0 where
   declared : IsTrue (is_declared site) → IsRefused site tree (Declared 1)
-  import_ : is_declared site ≡ false → IsTrue (is_import tree) → IsRefused site tree NotBuilt
-  at_name : {verdict : Verdict} → is_declared site ≡ false → is_import tree ≡ false → first_fault site tree ≡ Some verdict → IsRefused site tree verdict
-  too_big : is_declared site ≡ false → is_import tree ≡ false → first_fault site tree ≡ None → ¬ AreWithinLimits tree (terms_of site tree)
+  at_import : {verdict : Verdict} → is_declared site ≡ false → import_fault site tree ≡ Some verdict → IsRefused site tree verdict
+  at_name : {verdict : Verdict} → is_declared site ≡ false → import_fault site tree ≡ None → first_fault site tree ≡ Some verdict → IsRefused site tree verdict
+  too_big : is_declared site ≡ false → import_fault site tree ≡ None → first_fault site tree ≡ None → ¬ AreWithinLimits tree (terms_of site tree)
       → IsRefused site tree TooBig
-  mistyped : {token : ℕ} → is_declared site ≡ false → is_import tree ≡ false → first_fault site tree ≡ None → AreWithinLimits tree (terms_of site tree)
+  mistyped : {token : ℕ} → is_declared site ≡ false → import_fault site tree ≡ None → first_fault site tree ≡ None → AreWithinLimits tree (terms_of site tree)
       → FailsFirst (tests_at site tree) token → IsRefused site tree (Mistyped token)
-  unproved : {token : ℕ} → is_declared site ≡ false → is_import tree ≡ false → first_fault site tree ≡ None → AreWithinLimits tree (terms_of site tree)
+  unproved : {token : ℕ} → is_declared site ≡ false → import_fault site tree ≡ None → first_fault site tree ≡ None → AreWithinLimits tree (terms_of site tree)
       → AllHold (tests_at site tree) → first_unproved site tree ≡ Some token → IsRefused site tree (Unproved token)
 
 -- a body holds the terms and the steps of the statement, and whether a step is a hole

@@ -1,4 +1,5 @@
 // What statements bind.
+ghost use Rattle.chyp_env.specs.Site.{nothing as nothing'};
 ghost use Rattle.std.specs.Prelude.{◌≡◌, ◌<◌, ◌++◌, ◌∷◌, [], ℕ, List, Option, false, length, IfOk, IfSome, IfNone, IsUtf8, Some, OnOk, OnErr, option_copied};
 ghost use Rattle.chyp_base.specs.declared.verdict.Verdict.{Verdict};
 ghost use Rattle.chyp_lex.specs.declared.token.TokenKind.{TokenKind};
@@ -172,7 +173,7 @@ fn unbound<'a>(text: &'a [u8], tokens: &[Token], env: &Env) -> Option<&'a [u8]>
     requires { AreSpans (length text.now) tokens.now }
     ensures name { IfSome result (λ name. declared_name text.entry.now tokens.now ≡ Some name.now) }
     ensures free { IfSome result (λ name. is_bound env.now name.now ≡ false) }
-    ensures none { IfNone result ((home : List ℕ) (number : ℕ) (verdict : Verdict) → Binds (record { home = home; text = text.entry.now; env = env.now; tokens = tokens.now }) number verdict env.now) }
+    ensures none { IfNone result ((home : List ℕ) (number : ℕ) (verdict : Verdict) → Binds (record { home = home; text = text.entry.now; env = env.now; tokens = tokens.now; imported = nothing' }) number verdict env.now) }
 {
     let name = declared_name(text, tokens)?;
     match env.lookup(name) {

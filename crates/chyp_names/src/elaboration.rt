@@ -8,7 +8,7 @@ ghost use Rattle.chyp_term.specs.Term.{morphisms_of};
 ghost use Rattle.chyp_env.specs.ChunkView.{IsLent, site_of};
 ghost use Rattle.chyp_env.specs.PlainWires.{ArePlain};
 ghost use Rattle.chyp_env.specs.Site.{is_declared};
-ghost use Rattle.chyp_names.specs.Elaboration.{IsBody, IsRefused, Passes, has_hole, is_import};
+ghost use Rattle.chyp_names.specs.Elaboration.{IsBody, IsRefused, Passes, has_hole, import_fault, is_import};
 ghost use Rattle.chyp_names.specs.Naming.{first_fault};
 ghost use Rattle.chyp_names.specs.Typing.{AreTypedAlike};
 
@@ -47,7 +47,7 @@ fn refused_by_names(ast: &Ast, chunk: &ChunkView<'_>, env: &Env) -> Option<Verdi
     requires { IsLent chunk.now }
     ensures some { (home : List ℕ) → IfSome result (IsRefused (site_of home chunk.now env.now) (statement_of ast.now)) }
     ensures fresh { IfNone result (is_declared (site_of [] chunk.now env.now) ≡ false) }
-    ensures built { IfNone result (is_import (statement_of ast.now) ≡ false) }
+    ensures fits { IfNone result (import_fault (site_of [] chunk.now env.now) (statement_of ast.now) ≡ None) }
     ensures known { IfNone result (first_fault (site_of [] chunk.now env.now) (statement_of ast.now) ≡ None) }
 {
     if is_declared(chunk, env) {

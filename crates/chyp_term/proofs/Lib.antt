@@ -7,3 +7,4 @@ pub mod Distinct
 pub mod Counting
 pub mod Inverting
 mod Examples
+pub mod Deciding

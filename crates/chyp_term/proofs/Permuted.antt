@@ -1,5 +1,6 @@
 -- How lists are permuted: lengths, items, and permuting twice, side by side and by blocks.
-use Rattle.std.proofs.Common.{ℕ, zero, suc, ◌+◌, ◌<◌, ◌≤◌, ◌≡◌, List, [], ◌∷◌, ◌++◌, map, length, take, drop, Option, Some, None, slice_get, refl, sym, ◌∙◌, ap, ap₂, arith, add-zero, zero-add, add-suc, suc-add}
+use Rattle.std.proofs.Common.{ℕ, zero, suc, ◌+◌, ◌<◌, ◌≤◌, ◌≡◌, List, [], ◌∷◌, ◌++◌, map, length, take, drop, Option, Some, None, option_map, slice_get, refl}
+use Rattle.std.proofs.Common.{sym, ◌∙◌, ap, ap₂, arith, add-zero, zero-add, add-suc, suc-add}
 use Rattle.std.proofs.lemmas.List.Elements.{filter_map-append}
 use Rattle.std.specs.List.{cons_option}
 use Rattle.chyp_term.specs.Perm.{permuted, count_from, shifted, swapped}
@@ -90,6 +91,12 @@ permuted-left xs ys = permuted-append_left xs ys _ (Under-count_from (length xs)
 -- the swap of two blocks swaps them
 pub permuted-swapped : {A : Type 0} (xs ys : List A) → permuted (xs ++ ys) (swapped (length xs) (length ys)) ≡ ys ++ xs
 permuted-swapped xs ys = permuted-append (xs ++ ys) (count_from (length xs) (length ys)) (count_from 0 (length xs)) ∙ ap₂ (λ a b. a ++ b) (permuted-right xs ys) (permuted-left xs ys)
+
+-- the item at k of mapped items
+pub get-map : {A B : Type 0} (f : A → B) (xs : List A) (k : ℕ) → slice_get (map f xs) k ≡ option_map f (slice_get xs k)
+get-map f [] k = refl
+get-map f (x ∷ xs) zero = refl
+get-map f (x ∷ xs) (suc k) = get-map f xs k
 
 -- permuting items that are mapped
 pub permuted-map : {A B : Type 0} (f : A → B) (xs : List A) (p : List ℕ) → Under (length xs) p → permuted (map f xs) p ≡ map f (permuted xs p)

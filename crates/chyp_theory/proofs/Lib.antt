@@ -13,3 +13,10 @@ pub mod Peeling
 pub mod Cancelling
 pub mod Separation
 pub mod Completeness
+pub mod Forward
+pub mod Naming
+pub mod Sources
+pub mod Leaving
+pub mod Closed
+pub mod Through
+pub mod Divide

@@ -1,4 +1,5 @@
-use Rattle.chyp_theory.proofs.Deciding.{decide-permutation, decide-sorts, decide-typed}
+use Rattle.chyp_term.proofs.Deciding.{decide-sorts}
+use Rattle.chyp_theory.proofs.Deciding.{decide-permutation, decide-typed}
 use Rattle.chyp_theory.proofs.types_are_decided.Goals as goal
 
 pub returns-clause-typing : goal.returns-clause-typing

@@ -1,0 +1,34 @@
+-- What an import binds of a module's environment.
+use Rattle.std.specs.Prelude.{ℕ, Bool, false, not, ◌&&◌, ◌==◌, List, ◌++◌, map, find, codes, Option, None, Some, option_map}
+use Rattle.std.specs.List.{filter}
+use Rattle.std.specs.Option.{option_map_or}
+use Rattle.std.specs.Str.{bytes_eq}
+use Rattle.chyp_env.specs.Environment.{Binding, binding_of, is_bound}
+
+-- a name as an import binds it: behind the prefix and a dot, if there is a prefix
+abbrev pub prefixed : Option (List ℕ) → List ℕ → List ℕ
+prefixed None name = name
+prefixed (Some prefix) name = prefix ++ (codes "." ++ name)
+
+-- a binding as an import passes it on: it has the same origin and the same sense
+abbrev pub passed_on : Option (List ℕ) → Binding → Binding
+passed_on prefix binding = record { name = prefixed prefix binding.name; origin = binding.origin; sense = binding.sense }
+
+abbrev pub all_passed_on : Option (List ℕ) → List Binding → List Binding
+all_passed_on prefix bindings = map (passed_on prefix) bindings
+
+-- two bindings come from one statement
+abbrev pub same_origin : Binding → Binding → Bool
+same_origin a b = bytes_eq a.origin.0 b.origin.0 && (a.origin.1 == b.origin.1)
+
+-- the name is bound already, and to another statement
+abbrev pub clashes : List Binding → Binding → Bool
+clashes env binding = option_map_or (λ old. not (same_origin old binding)) (binding_of env binding.name) false
+
+-- the first of the names that is
+abbrev pub first_clash : List Binding → List Binding → Option (List ℕ)
+first_clash env bindings = option_map (λ binding. binding.name) (find (clashes env) bindings)
+
+-- the bindings whose names aren't bound already; the others are passed over
+abbrev pub new_in : List Binding → List Binding → List Binding
+new_in env bindings = filter (λ binding. not (is_bound env binding.name)) bindings

@@ -1,0 +1,16 @@
+pub mod Examples
+pub mod Blocks
+pub mod Spans
+pub mod Halves
+pub mod Layers
+pub mod Rounds
+pub mod Reading
+pub mod Numbered
+pub mod Drawn
+pub mod Theorem
+pub mod Measuring
+pub mod Levels
+pub mod Placing
+pub mod Rehalved
+pub mod Deciding
+pub mod ReplacedValid

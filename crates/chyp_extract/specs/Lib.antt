@@ -1,0 +1,6 @@
+pub mod Halving
+pub mod Extraction
+pub mod Measuring
+pub mod Rehalving
+pub mod Laws
+pub mod Replacing

@@ -1,0 +1,9 @@
+pub mod Library
+pub mod Import
+pub mod Table
+pub mod Judged
+pub mod Modules
+pub mod Rules
+pub mod Laws
+pub mod Checking
+pub mod Trial
