@@ -1,3 +1,4 @@
 mod CheckLemmas
 mod OutputLemmas
 mod ReportLemmas
+mod RunLemmas

@@ -2,55 +2,52 @@
 use Rattle.std.specs.Prelude.{take, ◌≤◌, ◌≡◌, ◌⊎◌, ℕ, ◌+◌, ◌<◌, List, ◌++◌, Option, Some}
 use Rattle.chyp_base.specs.declared.status.Status.{Status}
 use Rattle.chyp_base.specs.declared.status.Status.TheVariants.{ReadFault, WriteFault, LibraryFault, BadCommand, NoMemory}
-use Rattle.chyp_app.specs.Output.{Output, IsOutput}
+use Rattle.chyp_app.specs.Output.{Output}
 
--- the report and the status are those of the text's output, and its statements were counted
-pub record Checks (text report : List ℕ) (status : Status) (steps steps_now : ℕ) : Type 0 where
+-- there is an output that is to be given, and this holds of it
+pub record Gives (IsGiven Holds : Output → Type 0) : Type 0 where
   pub output : Output
-  pub is_output : IsOutput text output
-  pub reports : report ≡ output.text
-  pub ends : status ≡ output.status
-  pub counts : steps_now ≡ steps + output.checks
+  pub is_given : IsGiven output
+  pub holds : Holds output
 
--- no more than the text's statements were counted
-pub record BeginsToCheck (text : List ℕ) (steps steps_now : ℕ) : Type 0 where
-  pub output : Output
-  pub is_output : IsOutput text output
-  pub rises : steps ≤ steps_now
-  pub counts : steps_now ≤ steps + output.checks
+-- its text was written: the sink holds it behind what it held
+abbrev pub IsWritten : List ℕ → Option (List ℕ) → Output → Type 0
+IsWritten held held_now output = held_now ≡ Some (held ++ output.text)
 
--- the status is that of the text's output, and as many steps were counted as statements are checked
-pub record Judges (text : List ℕ) (steps steps_now : ℕ) (status : Status) : Type 0 where
-  pub output : Output
-  pub is_output : IsOutput text output
-  pub ends : status ≡ output.status
-  pub counts : steps_now ≡ steps + output.checks
-
--- the run judged so, or memory was wanting
-abbrev pub EndsSo : List ℕ → ℕ → ℕ → Status → Type 0
-EndsSo text steps steps_now status = (status ≡ NoMemory) ⊎ Judges text steps steps_now status
-
--- The run gave what it is to give for the text: the sink holds the output's text behind what it held, the status is the
--- output's, and as many steps were counted as statements are checked.
-pub record Gives (text held : List ℕ) (held_now : Option (List ℕ)) (steps steps_now : ℕ) (status : Status) : Type 0 where
-  pub output : Output
-  pub is_output : IsOutput text output
-  pub writes : held_now ≡ Some (held ++ output.text)
-  pub ends : status ≡ output.status
-  pub counts : steps_now ≡ steps + output.checks
-
--- the run gave that, or memory was wanting
-abbrev pub EndsWell : List ℕ → List ℕ → Option (List ℕ) → ℕ → ℕ → Status → Type 0
-EndsWell text held held_now steps steps_now status = (status ≡ NoMemory) ⊎ Gives text held held_now steps steps_now status
-
--- The run gave a part of it: what was written is the front of the output's text, and no more steps were counted.
-pub record Begins (text held : List ℕ) (held_now : Option (List ℕ)) (steps steps_now : ℕ) : Type 0 where
-  pub output : Output
-  pub is_output : IsOutput text output
+-- a front of its text was written
+pub record IsBegun (held : List ℕ) (held_now : Option (List ℕ)) (output : Output) : Type 0 where
   pub written : ℕ
   pub writes : held_now ≡ Some (held ++ take written output.text)
+
+-- its status is that of the run, and as many steps were counted as it has checks
+pub record IsReached (steps steps_now : ℕ) (status : Status) (output : Output) : Type 0 where
+  pub ends : status ≡ output.status
+  pub counts : steps_now ≡ steps + output.checks
+
+-- no more steps were counted than it has checks
+pub record IsCountedTo (steps steps_now : ℕ) (output : Output) : Type 0 where
   pub rises : steps ≤ steps_now
   pub counts : steps_now ≤ steps + output.checks
+
+-- memory was wanting, or there is an output that is to be given, and this holds of it
+abbrev pub GivesOrWants : Status → (Output → Type 0) → (Output → Type 0) → Type 0
+GivesOrWants status IsGiven Holds = (status ≡ NoMemory) ⊎ Gives IsGiven Holds
+
+-- the run gave what it is to give: the text is written, the status is the output's, and its checks were counted
+abbrev pub EndsWell : (Output → Type 0) → List ℕ → Option (List ℕ) → ℕ → ℕ → Status → Type 0
+EndsWell IsGiven held held_now steps steps_now status =
+    GivesOrWants status IsGiven (λ output. IsWritten held held_now output × IsReached steps steps_now status output)
+
+-- the run gave a part of it: a front of the text is written, and no more checks were counted
+abbrev pub Begins : (Output → Type 0) → List ℕ → Option (List ℕ) → ℕ → ℕ → Type 0
+Begins IsGiven held held_now steps steps_now = Gives IsGiven (λ output. IsBegun held held_now output × IsCountedTo steps steps_now output)
+
+-- the same, where nothing is said of what was written
+abbrev pub EndsSo : (Output → Type 0) → ℕ → ℕ → Status → Type 0
+EndsSo IsGiven steps steps_now status = GivesOrWants status IsGiven (IsReached steps steps_now status)
+
+abbrev pub BeginsToCheck : (Output → Type 0) → ℕ → ℕ → Type 0
+BeginsToCheck IsGiven steps steps_now = Gives IsGiven (IsCountedTo steps steps_now)
 
 -- at most one of the two counts of faults rose, and the status says which; want of memory is no fault
 abbrev pub ComesBy : ℕ → ℕ → ℕ → ℕ → Status → Type 0

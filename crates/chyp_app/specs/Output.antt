@@ -1,7 +1,8 @@
 -- What a run is to give.
 use Rattle.std.specs.Prelude.{◌≡◌, ℕ, ◌<◌, ◌≤◌, List, [], length, ◌==◌, count_by, if◌then◌else◌}
+use Rattle.chyp_base.specs.Library.{Texts}
 use Rattle.chyp_base.specs.declared.status.Status.{Status}
-use Rattle.chyp_base.specs.declared.status.Status.TheVariants.{Done, SomeNotGood, TooLong}
+use Rattle.chyp_base.specs.declared.status.Status.TheVariants.{Done, SomeNotGood, BadWords, TooLong}
 use Rattle.chyp_base.specs.declared.verdict.Verdict.{Verdict}
 use Rattle.chyp_base.specs.Verdict.{is_good}
 use Rattle.chyp_lex.specs.Tokens.{AreTokens, text_limit}
@@ -10,12 +11,17 @@ use Rattle.chyp_syntax.specs.Chunk.{AreChunks}
 use Rattle.chyp_syntax.specs.declared.chunk.Chunk.{Chunk}
 use Rattle.chyp_check.specs.Verdicts.{AreVerdicts}
 use Rattle.chyp_app.specs.Report.{report_of}
+use Rattle.chyp_app.specs.Words.{Accepts}
 
 -- the text that is written, the status that the run ends with, and how many statements are checked
 pub record Output : Type 0 where
   pub text : List ℕ
   pub status : Status
   pub checks : ℕ
+
+-- nothing is written or checked
+abbrev pub nothing_but : Status → Output
+nothing_but status = record { text = []; status = status; checks = 0 }
 
 -- `Done` where as many statements are good as there are
 abbrev pub status_of : List Verdict → Status
@@ -31,23 +37,33 @@ output_of text tokens chunks verdicts = record {
 
 -- What `check` is to give for a text. Where it is too long nothing is written. Else it is read as tokens and chunks,
 -- each statement is judged, and the report of the verdicts is written.
-pub data IsOutput (text : List ℕ) : Output → Type 0 where
-  too_long : text_limit < length text → IsOutput text (record { text = []; status = TooLong; checks = 0 })
+pub data IsCheck (text : List ℕ) : Output → Type 0 where
+  too_long : text_limit < length text → IsCheck text (nothing_but TooLong)
   checked : {tokens : List Token} {chunks : List Chunk} {verdicts : List Verdict} → length text ≤ text_limit
       → AreTokens text tokens → AreChunks tokens chunks → AreVerdicts text tokens chunks verdicts
-      → IsOutput text (output_of text tokens chunks verdicts)
+      → IsCheck text (output_of text tokens chunks verdicts)
 
--- a text has exactly one output
-pub record HasOneOutput (text : List ℕ) : Type 0 where
+-- What a run is to give for its words, the bytes of its source and the texts of its library: what the command that the
+-- words name gives, and nothing where they name none. (No command asks the library yet.)
+pub data IsOutput (words : List (List ℕ)) (bytes : List ℕ) (texts : Texts) : Output → Type 0 where
+  of_check : {output : Output} → Accepts words → IsCheck bytes output → IsOutput words bytes texts output
+  of_bad_words : ¬ Accepts words → IsOutput words bytes texts (nothing_but BadWords)
+
+-- there is exactly one output that is to be given
+pub record HasOneOutput (words : List (List ℕ)) (bytes : List ℕ) (texts : Texts) : Type 0 where
   pub output : Output
-  pub is_output : IsOutput text output
-  pub only : (other : Output) → IsOutput text other → other ≡ output
+  pub is_output : IsOutput words bytes texts output
+  pub only : (other : Output) → IsOutput words bytes texts other → other ≡ output
 
--- so it is for every text
-abbrev pub EachTextHasOneOutput : Type 0
-EachTextHasOneOutput = (text : List ℕ) → HasOneOutput text
+-- so it is for all words, all bytes and all texts
+abbrev pub EachRunHasOneOutput : Type 0
+EachRunHasOneOutput = (words : List (List ℕ)) (bytes : List ℕ) (texts : Texts) → HasOneOutput words bytes texts
+
+-- `check` gives something for each text
+abbrev pub EachTextIsChecked : Type 0
+EachTextIsChecked = (text : List ℕ) → (output : Output) × IsCheck text output
 
 -- the checks of a text that is not too long are as many as its chunks
 abbrev pub CountsStatements : Type 0
-CountsStatements = (text : List ℕ) (tokens : List Token) (chunks : List Chunk) → length text ≤ text_limit → AreTokens text tokens → AreChunks tokens chunks
-    → (output : Output) × IsOutput text output × (output.checks ≡ length chunks)
+CountsStatements = (text : List ℕ) (tokens : List Token) (chunks : List Chunk) → length text ≤ text_limit → AreTokens text tokens
+    → AreChunks tokens chunks → (output : Output) × IsCheck text output × (output.checks ≡ length chunks)

@@ -1,8 +1,8 @@
 // From the bytes of a text to its report.
 ghost use Rattle.std.specs.Prelude.{◌≡◌, ◌≤◌, length, IfOk, OnErr};
 ghost use Rattle.chyp_lex.specs.Tokens.{text_limit};
-ghost use Rattle.chyp_app.specs.Output.{status_of, CountsStatements, EachTextHasOneOutput};
-ghost use Rattle.chyp_app.specs.Headline.{Checks, BeginsToCheck};
+ghost use Rattle.chyp_app.specs.Output.{status_of, CountsStatements, EachRunHasOneOutput, EachTextIsChecked, IsCheck};
+ghost use Rattle.chyp_app.specs.Headline.{BeginsToCheck, Gives, IsReached};
 
 use crate::report::{good_count, report};
 use chyp_base::{NoMemory, Status, Steps, Verdict};
@@ -32,9 +32,11 @@ fn status_of(verdicts: &[Verdict]) -> Status
     }
 }
 
-/// For each text there is exactly one output, and its checks are its statements.
-pub fn each_text_has_one_output()
-    ensures one { EachTextHasOneOutput }
+/// For all words, bytes and texts of a library there is exactly one output; each text is checked, and its
+/// checks are its statements.
+pub fn each_run_has_one_output()
+    ensures one { EachRunHasOneOutput }
+    ensures each { EachTextIsChecked }
     ensures counts { CountsStatements }
 {
     every_text_has_one_token_list();
@@ -53,10 +55,11 @@ pub fn check_text<G: Ledger>(
     steps: &mut Steps<G>,
 ) -> Result<Checked, NoMemory>
     requires { length text.now ≤ text_limit }
-    ensures checks { IfOk result (λ checked. Checks text.now checked.report.items checked.status steps.old steps.new) }
-    ensures begins { OnErr result (BeginsToCheck text.now steps.old steps.new) }
+    ensures checks { IfOk result (λ checked. Gives (IsCheck text.now)
+        (λ output. (checked.report.items ≡ output.text) × IsReached steps.old steps.new checked.status output)) }
+    ensures begins { OnErr result (BeginsToCheck (IsCheck text.now) steps.old steps.new) }
 {
-    each_text_has_one_output();
+    each_run_has_one_output();
     each_name_is_text();
     let tokens = lex(alloc, text, b"")?;
     let chunks = chunks(alloc, &tokens)?;

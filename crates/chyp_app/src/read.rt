@@ -3,12 +3,8 @@ ghost use Rattle.std.specs.Prelude.{List, ℕ, ◌≡◌, ◌+◌, ◌-◌, ◌^
 ghost use Rattle.std.specs.Io.KnownBytes.{Consumes, IsAtEnd};
 ghost use Rattle.chyp_app.specs.Faults.{StopsReading};
 
-use chyp_base::{Failed, Source};
-use chyp_lex::MAX_TEXT_LEN;
+use chyp_base::{Failed, MAX_TEXT_LEN, Source};
 use std::alloc::Global;
-
-/// The most bytes that a text may have.
-pub const TEXT_LIMIT: usize = MAX_TEXT_LEN;
 
 /// Why a read ended early.
 #[derive(Clone, Copy, Debug, PartialEq, Eq)]
@@ -27,18 +23,19 @@ pub enum ReadStop {
 pub fn read_text<S: Source>(alloc: Global, source: &mut S) -> Result<Vec<u8>, ReadStop>
     requires { S.faults source.old < 2 ^ 64 - 1 }
     ensures bytes { IfOk result (λ text. Consumes (S.left source.old) (S.left source.new) text.items) }
-    ensures within { IfOk result (λ text. length text.items ≤ TEXT_LIMIT + 1) }
-    ensures end { IfOk result (λ text. length text.items ≤ TEXT_LIMIT → IsAtEnd (S.left source.new)) }
+    ensures within { IfOk result (λ text. length text.items ≤ MAX_TEXT_LEN + 1) }
+    ensures end { IfOk result (λ text. length text.items ≤ MAX_TEXT_LEN → IsAtEnd (S.left source.new)) }
     ensures kept { OnOk result (S.faults source.new ≡ S.faults source.old) }
 
     // No byte behind the limit was given where the source failed.
-    ensures given { IsErrOf result ReadStop.Failed → (given : List ℕ) × Consumes (S.left source.old) (S.left source.new) given × (length given ≤ TEXT_LIMIT) }
+    ensures given { IsErrOf result ReadStop.Failed → (given : List ℕ) × Consumes (S.left source.old) (S.left source.new) given
+        × (length given ≤ MAX_TEXT_LEN) }
     ensures stops { IfErr result (StopsReading (S.faults source.old) (S.faults source.new)) }
 {
     let mut text = Vec::new(alloc);
     let mut buffer = [0u8; 4096];
-    while text.len() <= TEXT_LIMIT {
-        let room = (TEXT_LIMIT + 1 - text.len()).min(buffer.len());
+    while text.len() <= MAX_TEXT_LEN {
+        let room = (MAX_TEXT_LEN + 1 - text.len()).min(buffer.len());
         let count = match source.read(&mut buffer[..room]) {
             Ok(count) => count,
             Err(Failed) => return Err(ReadStop::Failed),

@@ -1,12 +1,14 @@
 // The whole program, over an outside that is handed in.
 ghost use Rattle.std.specs.Prelude.{◌≡◌, ◌⊎◌, ◌-◌, ◌^◌, ◌<◌, ◌≤◌, List, ℕ, length, IfSome, IsTrue, ◌↔◌, map};
 ghost use Rattle.std.specs.Io.KnownBytes.{Consumes, IsAtEnd};
+ghost use Rattle.chyp_base.specs.Library.{Texts};
 ghost use Rattle.chyp_app.specs.Words.{Accepts, texts_of};
+ghost use Rattle.chyp_app.specs.Output.{IsCheck, IsOutput};
 ghost use Rattle.chyp_app.specs.Headline.{Begins, BeginsToCheck, EndsSo, EndsWell, ComesBy};
 
-use crate::check::{check_text, each_text_has_one_output};
-use crate::read::{ReadStop, TEXT_LIMIT, read_text};
-use chyp_base::{Failed, Library, NoMemory, Sink, Source, Status, Steps};
+use crate::check::{check_text, each_run_has_one_output};
+use crate::read::{ReadStop, read_text};
+use chyp_base::{Failed, Library, MAX_TEXT_LEN, NoMemory, Sink, Source, Status, Steps};
 use chyp_session::write_text;
 use std::alloc::Global;
 use std::sync::ledger::Ledger;
@@ -32,27 +34,28 @@ fn check<S: Source, K: Sink, G: Ledger>(
     requires sink { K.faults sink.old < 2 ^ 64 - 1 }
     ensures output { IfSome (S.left source.old) (λ text. IfSome (K.held sink.old) (λ held.
         S.faults source.new ≡ S.faults source.old → K.faults sink.new ≡ K.faults sink.old →
-        EndsWell text held (K.held sink.new) steps.old steps.new result)) }
+        EndsWell (IsCheck text) held (K.held sink.new) steps.old steps.new result)) }
     ensures begun { IfSome (S.left source.old) (λ text. IfSome (K.held sink.old) (λ held.
-        Begins text held (K.held sink.new) steps.old steps.new)) }
+        Begins (IsCheck text) held (K.held sink.new) steps.old steps.new)) }
     ensures judged { IfSome (S.left source.old) (λ text.
         S.faults source.new ≡ S.faults source.old → K.faults sink.new ≡ K.faults sink.old →
-        EndsSo text steps.old steps.new result) }
-    ensures counted { IfSome (S.left source.old) (λ text. BeginsToCheck text steps.old steps.new) }
+        EndsSo (IsCheck text) steps.old steps.new result) }
+    ensures counted { IfSome (S.left source.old) (λ text. BeginsToCheck (IsCheck text) steps.old steps.new) }
     ensures causes { ComesBy (S.faults source.old) (S.faults source.new) (K.faults sink.old) (K.faults sink.new) result }
-    ensures given { result ≡ Status.ReadFault → (given : List ℕ) × Consumes (S.left source.old) (S.left source.new) given × (length given ≤ TEXT_LIMIT) }
+    ensures given { result ≡ Status.ReadFault → (given : List ℕ) × Consumes (S.left source.old) (S.left source.new) given
+        × (length given ≤ MAX_TEXT_LEN) }
     ensures untouched { result ≡ Status.ReadFault → (sink.new ≡ sink.old) × (steps.new ≡ steps.old) }
     ensures unwritten { ((result ≡ Status.TooLong) ⊎ (result ≡ Status.NoMemory)) → sink.new ≡ sink.old }
     ensures whole { ((result ≡ Status.Done) ⊎ (result ≡ Status.SomeNotGood)) → IsAtEnd (S.left source.new) }
     ensures words { result ≡ Status.BadWords → ⊥ }
 {
-    each_text_has_one_output();
+    each_run_has_one_output();
     let text = match read_text(alloc, source) {
         Ok(text) => text,
         Err(ReadStop::Failed) => return Status::ReadFault,
         Err(ReadStop::NoMemory) => return Status::NoMemory,
     };
-    if text.len() > TEXT_LIMIT {
+    if text.len() > MAX_TEXT_LEN {
         return Status::TooLong;
     }
     let checked = match check_text(alloc, &text, steps) {
@@ -82,20 +85,22 @@ pub fn run<S: Source, K: Sink, L: Library, G: Ledger>(
     requires sink { K.faults sink.old < 2 ^ 64 - 1 }
     requires library { L.faults library.old < 2 ^ 64 - 1 }
 
-    // Over an outside that tells what it holds and does not fail, the run gives the output of the text.
-    ensures output { Accepts (texts_of words.now) → IfSome (S.left source.old) (λ text. IfSome (K.held sink.old) (λ held.
+    // Over an outside that tells what it holds and does not fail, the run gives the output for its words and bytes, whatever
+    // the library holds, which isn't asked.
+    ensures output { (texts : Texts) → IfSome (S.left source.old) (λ bytes. IfSome (K.held sink.old) (λ held.
         S.faults source.new ≡ S.faults source.old → K.faults sink.new ≡ K.faults sink.old →
-        EndsWell text held (K.held sink.new) steps.old steps.new result)) }
+        EndsWell (IsOutput (texts_of words.now) bytes texts) held (K.held sink.new) steps.old steps.new result)) }
 
     // However it ends, what was written is the front of that output, and no more steps were counted.
-    ensures begun { Accepts (texts_of words.now) → IfSome (S.left source.old) (λ text. IfSome (K.held sink.old) (λ held.
-        Begins text held (K.held sink.new) steps.old steps.new)) }
+    ensures begun { (texts : Texts) → IfSome (S.left source.old) (λ bytes. IfSome (K.held sink.old) (λ held.
+        Begins (IsOutput (texts_of words.now) bytes texts) held (K.held sink.new) steps.old steps.new)) }
 
     // Whether the sink tells what it holds or not: the status and the steps are those of the output.
-    ensures judged { Accepts (texts_of words.now) → IfSome (S.left source.old) (λ text.
+    ensures judged { (texts : Texts) → IfSome (S.left source.old) (λ bytes.
         S.faults source.new ≡ S.faults source.old → K.faults sink.new ≡ K.faults sink.old →
-        EndsSo text steps.old steps.new result) }
-    ensures counted { Accepts (texts_of words.now) → IfSome (S.left source.old) (λ text. BeginsToCheck text steps.old steps.new) }
+        EndsSo (IsOutput (texts_of words.now) bytes texts) steps.old steps.new result) }
+    ensures counted { (texts : Texts) → IfSome (S.left source.old) (λ bytes.
+        BeginsToCheck (IsOutput (texts_of words.now) bytes texts) steps.old steps.new) }
 
     // Words are refused exactly where they are none of the accepted lists, and then nothing is touched.
     ensures bad_words { result ≡ Status.BadWords → ¬ Accepts (texts_of words.now) }
@@ -107,7 +112,8 @@ pub fn run<S: Source, K: Sink, L: Library, G: Ledger>(
     ensures library { library.new ≡ library.old }
 
     // A read that failed came before any write, and before the limit was passed.
-    ensures given { result ≡ Status.ReadFault → (given : List ℕ) × Consumes (S.left source.old) (S.left source.new) given × (length given ≤ TEXT_LIMIT) }
+    ensures given { result ≡ Status.ReadFault → (given : List ℕ) × Consumes (S.left source.old) (S.left source.new) given
+        × (length given ≤ MAX_TEXT_LEN) }
     ensures untouched { result ≡ Status.ReadFault → (sink.new ≡ sink.old) × (steps.new ≡ steps.old) }
 
     // Nothing was written where the text is too long, or where memory was wanting.

@@ -12,7 +12,11 @@ use std::marker::Model;
 use std::rc::Rc;
 
 /// A list of sorts, seen by contracts as that list: an object of the category, whose tensor product
-/// is concatenation. Once it is shared, to share it again takes no memory.
+/// is concatenation.
+///
+/// A list that was just made has one owner, and to [`share`](Sorts::share) it copies it once, into a
+/// list that can have several. That one and each list shared from it have the same items, and to
+/// share any of them again takes no memory. `into_shared` makes such a list without a copy.
 #[derive(Drop)]
 pub struct Sorts {
     items: Items,
@@ -55,17 +59,20 @@ impl Sorts {
         }
     }
 
-    /// Gives the sorts back. It takes no memory where the list isn't shared.
+    /// Gives the sorts back, without a copy where this is their sole owner.
     ///
     /// # Errors
     ///
-    /// `NoMemory` where a copy of a shared list can't be kept.
+    /// `NoMemory` where there are other owners, and a copy for them can't be kept.
     pub fn into_vec(self) -> Result<Vec<Sort>, NoMemory>
         ensures { IfOk result (λ list. list.items ≡ self) }
     {
         match self.items {
             Items::Owned(list) => Ok(list),
-            Items::Shared(list) => joined(&list, &[]),
+            Items::Shared(list) => match Rc::try_unwrap(list) {
+                Ok(list) => Ok(list),
+                Err(list) => joined(&list, &[]),
+            },
         }
     }
 

@@ -1,5 +1,5 @@
 // Any writer of std as a sink.
-ghost use Rattle.std.specs.Prelude.{◌≡◌, None, ◌<◌, ◌-◌, ◌^◌, length, take, IfOk};
+ghost use Rattle.std.specs.Prelude.{◌≡◌, None, ◌+◌, ◌<◌, ◌-◌, ◌^◌, length, take, IfOk, OnErr};
 ghost use Rattle.std.specs.Io.{WritesAtMost};
 ghost use Rattle.std.specs.Io.KnownBytes.{Appends, WriteAppends};
 ghost use Rattle.chyp_base.specs.Causes.{HasCause};
@@ -73,6 +73,8 @@ impl<W: Write> Sink for StdSink<W> {
         ensures some { IfOk result (λ n. 0 < length piece.now → 0 < n) }
         ensures bytes { WriteAppends None None result piece.now }
         ensures cause { HasCause (⟦<StdSink<W> as Sink>⟧.faults self.old) (⟦<StdSink<W> as Sink>⟧.faults self.new) result }
+        // A failure is one fault.
+        ensures counts { OnErr result (⟦<StdSink<W> as Sink>⟧.faults self.new ≡ ⟦<StdSink<W> as Sink>⟧.faults self.old + 1) }
         // What was taken has gone to the writer.
         ensures passed_on { IfOk result (λ n. Appends (W.contents (writer self.old)) (W.contents (writer self.new)) (take n piece.now)) }
     {

@@ -1,7 +1,8 @@
 // Any reader of std as a source.
-ghost use Rattle.std.specs.Prelude.{◌≡◌};
+ghost use Rattle.std.specs.Prelude.{◌≡◌, ◌+◌, ◌<◌, ◌-◌, ◌^◌, OnErr};
 ghost use Rattle.std.specs.Io.{ReadsAtMost};
 ghost use Rattle.std.specs.Io.KnownBytes.{ReadConsumes};
+ghost use Rattle.chyp_base.specs.Causes.{HasCause};
 
 use crate::{Failed, Source};
 use std::io::{ErrorKind, Read};
@@ -48,7 +49,14 @@ impl<R: Read> Source for StdSource<R> {
 
     ghost faults = { λ s. s.faults };
 
-    fn read(&mut self, into: &mut [u8]) -> Result<usize, Failed> {
+    fn read(&mut self, into: &mut [u8]) -> Result<usize, Failed>
+        requires { ⟦<StdSource<R> as Source>⟧.faults self.old < 2 ^ 64 - 1 }
+        ensures bound { ReadsAtMost result into.new }
+        ensures bytes { ReadConsumes (R.remaining self.old.inner) (R.remaining self.new.inner) result into.new }
+        ensures cause { HasCause (⟦<StdSource<R> as Source>⟧.faults self.old) (⟦<StdSource<R> as Source>⟧.faults self.new) result }
+        // A failure is one fault.
+        ensures counts { OnErr result (⟦<StdSource<R> as Source>⟧.faults self.new ≡ ⟦<StdSource<R> as Source>⟧.faults self.old + 1) }
+    {
         match read_once(&mut self.inner, into) {
             Ok(count) => Ok(count),
             Err(Failed) => {

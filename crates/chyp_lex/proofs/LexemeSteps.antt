@@ -26,11 +26,13 @@ comment_len-is text None h = sym (prefix_len_is _ text (length text) 0 (omega ar
 comment_len-is text (Some n) h = sym (prefix_len_is _ text n 0 (omega (arith, h.0.high)) (λ k below. not-false _ (h.0.before k (omega arith) below)) (λ _. not-true _ h.1))
 
 -- a list of known length and elements
-pub six_bytes : (xs : List ℕ) (a b c d e f : ℕ) → length xs ≡ 6 → slice_index xs 0 ≡ a → slice_index xs 1 ≡ b → slice_index xs 2 ≡ c → slice_index xs 3 ≡ d → slice_index xs 4 ≡ e → slice_index xs 5 ≡ f → xs ≡ a ∷ b ∷ c ∷ d ∷ e ∷ f ∷ []
+pub six_bytes : (xs : List ℕ) (a b c d e f : ℕ) → length xs ≡ 6 → slice_index xs 0 ≡ a → slice_index xs 1 ≡ b → slice_index xs 2 ≡ c → slice_index xs 3 ≡ d → slice_index xs 4 ≡ e
+    → slice_index xs 5 ≡ f → xs ≡ a ∷ b ∷ c ∷ d ∷ e ∷ f ∷ []
 six_bytes (x0 ∷ x1 ∷ x2 ∷ x3 ∷ x4 ∷ x5 ∷ []) a b c d e f n h0 h1 h2 h3 h4 h5 = cc
 six_bytes _ a b c d e f n h0 h1 h2 h3 h4 h5 = absurd (omega arith)
 
-pub seven_bytes : (xs : List ℕ) (a b c d e f g : ℕ) → length xs ≡ 7 → slice_index xs 0 ≡ a → slice_index xs 1 ≡ b → slice_index xs 2 ≡ c → slice_index xs 3 ≡ d → slice_index xs 4 ≡ e → slice_index xs 5 ≡ f → slice_index xs 6 ≡ g → xs ≡ a ∷ b ∷ c ∷ d ∷ e ∷ f ∷ g ∷ []
+pub seven_bytes : (xs : List ℕ) (a b c d e f g : ℕ) → length xs ≡ 7 → slice_index xs 0 ≡ a → slice_index xs 1 ≡ b → slice_index xs 2 ≡ c → slice_index xs 3 ≡ d → slice_index xs 4 ≡ e
+    → slice_index xs 5 ≡ f → slice_index xs 6 ≡ g → xs ≡ a ∷ b ∷ c ∷ d ∷ e ∷ f ∷ g ∷ []
 seven_bytes (x0 ∷ x1 ∷ x2 ∷ x3 ∷ x4 ∷ x5 ∷ x6 ∷ []) a b c d e f g n h0 h1 h2 h3 h4 h5 h6 = cc
 seven_bytes _ a b c d e f g n h0 h1 h2 h3 h4 h5 h6 = absurd (omega arith)
 
@@ -51,7 +53,8 @@ module _ (text : List ℕ) (n : ℕ) where
   pub next-is_word : n ≡ identifier_len text → n ≢ 0 → members_len (drop n text) ≡ 0 → cond (identifier_len text == 0) (bad_of text) (name_of text) ≡ (n, Some (kind_of_word (take n text)))
   next-is_word is some none = name_of-some is some ∙ rw is (name_of-word text (rw is at none))
 
-  pub next-is_dotted : (more : ℕ) → n ≡ identifier_len text → n ≢ 0 → more ≡ members_len (drop n text) → more ≢ 0 → cond (identifier_len text == 0) (bad_of text) (name_of text) ≡ (n + more, Some Dotted)
+  pub next-is_dotted : (more : ℕ) → n ≡ identifier_len text → n ≢ 0 → more ≡ members_len (drop n text) → more ≢ 0
+      → cond (identifier_len text == 0) (bad_of text) (name_of text) ≡ (n + more, Some Dotted)
   next-is_dotted more is some more_is more_some =
       let long : 0 < members_len (drop n text) = omega arith in
       name_of-some is some ∙ rw (more_is, is) (name_of-dotted text (rw is at long))

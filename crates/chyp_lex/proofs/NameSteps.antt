@@ -52,7 +52,8 @@ pub ruleset member_steps = (member_len-is, member_len-empty, member_len-no_dot, 
 
 -- a loop that takes a step again and again: one more step, the step that gives 0, and the end of the text
 module _ (step : List ℕ → ℕ) (text : List ℕ) (at : ℕ) where
-  pub repeated-next : ((t : List ℕ) → step t ≤ length t) → (len : ℕ) → len ≡ step (drop at text) → len ≢ 0 → repeated step text ≡ at + repeated step (drop at text) → repeated step text ≡ at + len + repeated step (drop (at + len) text)
+  pub repeated-next : ((t : List ℕ) → step t ≤ length t) → (len : ℕ) → len ≡ step (drop at text) → len ≢ 0 → repeated step text ≡ at + repeated step (drop at text)
+      → repeated step text ≡ at + len + repeated step (drop (at + len) text)
   repeated-next within len is some so_far =
       let go = repeated-go step (drop at text) (omega arith) (within (drop at text)) in
       let more : repeated step (drop at text) ≡ len + repeated step (drop (at + len) text) = rw (sym is, drop-drop) at go in

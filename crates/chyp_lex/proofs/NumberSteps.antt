@@ -8,7 +8,8 @@ pub digits_value_after-le : (n : ℕ) (digits : List ℕ) → n ≤ digits_value
 digits_value_after-le n [] = omega arith
 digits_value_after-le n (d ∷ ds) = let rest = digits_value_after-le (n * 10 + digit_value d) ds in omega arith
 
-pub digits_value_after-next : (n : ℕ) (digits : List ℕ) (i : ℕ) → i < length digits → digits_value_after 10 n (drop i digits) ≡ digits_value_after 10 (n * 10 + digit_value (slice_index digits i)) (drop (i + 1) digits)
+pub digits_value_after-next : (n : ℕ) (digits : List ℕ) (i : ℕ) → i < length digits
+    → digits_value_after 10 n (drop i digits) ≡ digits_value_after 10 (n * 10 + digit_value (slice_index digits i)) (drop (i + 1) digits)
 digits_value_after-next n digits i h = rw (drop-cons digits i 0, add-one) refl
 
 -- the value is at least what the digits so far write

@@ -91,11 +91,13 @@ next-number text passes =
     let no_hash : (slice_index text 0 == 35) ≡ false = grind (arith, nat_tests) in
     cond-false _ _ _ no_blank ∙ cond-false _ _ _ no_hash ∙ cond-true _ _ _ passes
 
-pub next-other : (text : List ℕ) → is_blank (slice_index text 0) ≡ false → (slice_index text 0 == 35) ≡ false → is_ascii_digit (slice_index text 0) ≡ false → next_of text ≡ symbol_or (symbol_of (slice_index text 0) (slice_index text 1)) (cond (identifier_len text == 0) (bad_of text) (name_of text))
+pub next-other : (text : List ℕ) → is_blank (slice_index text 0) ≡ false → (slice_index text 0 == 35) ≡ false → is_ascii_digit (slice_index text 0) ≡ false
+    → next_of text ≡ symbol_or (symbol_of (slice_index text 0) (slice_index text 1)) (cond (identifier_len text == 0) (bad_of text) (name_of text))
 unfolding next_of
 next-other text no_blank no_hash no_digit = cond-false _ _ _ no_blank ∙ cond-false _ _ _ no_hash ∙ cond-false _ _ _ no_digit
 
-pub next-symbol : (text : List ℕ) (found : ℕ × TokenKind) → is_blank (slice_index text 0) ≡ false → (slice_index text 0 == 35) ≡ false → is_ascii_digit (slice_index text 0) ≡ false → symbol_of (slice_index text 0) (slice_index text 1) ≡ Some found → next_of text ≡ (found.0, Some found.1)
+pub next-symbol : (text : List ℕ) (found : ℕ × TokenKind) → is_blank (slice_index text 0) ≡ false → (slice_index text 0 == 35) ≡ false → is_ascii_digit (slice_index text 0) ≡ false
+    → symbol_of (slice_index text 0) (slice_index text 1) ≡ Some found → next_of text ≡ (found.0, Some found.1)
 next-symbol text found no_blank no_hash no_digit is = next-other text no_blank no_hash no_digit ∙ ap (λ o. symbol_or o (cond (identifier_len text == 0) (bad_of text) (name_of text))) is
 
 -- a byte with which a name may begin is in no other class
@@ -182,7 +184,8 @@ pub record IsWithinNext (text : List ℕ) (n : ℕ) (kind : Option TokenKind) : 
   pub same : n ≡ (next_of text).0 → kind ≡ (next_of text).1
   pub not_bad : IsOtherwise (slice_index text 0) (slice_index text 1) → identifier_len text ≡ 0 → ⊥
 
-within_next : (text : List ℕ) (n : ℕ) (kind : Option TokenKind) (found : ℕ × Option TokenKind) → next_of text ≡ found → 0 < n → n ≤ found.0 → (n ≡ found.0 → kind ≡ found.1) → (IsOtherwise (slice_index text 0) (slice_index text 1) → identifier_len text ≡ 0 → ⊥) → IsWithinNext text n kind
+within_next : (text : List ℕ) (n : ℕ) (kind : Option TokenKind) (found : ℕ × Option TokenKind) → next_of text ≡ found → 0 < n → n ≤ found.0 → (n ≡ found.0 → kind ≡ found.1)
+    → (IsOtherwise (slice_index text 0) (slice_index text 1) → identifier_len text ≡ 0 → ⊥) → IsWithinNext text n kind
 within_next text n kind found is some within same not_bad = record {
   some = some;
   within = rw is within;
@@ -602,7 +605,8 @@ Symbol-value bytes question_mark = refl
 pub symbol_of-value : (text : List ℕ) (found : ℕ × TokenKind) (bytes : List ℕ) → 0 < length text → symbol_of (slice_index text 0) (slice_index text 1) ≡ Some found → value_of found.1 bytes ≡ 0
 symbol_of-value text found bytes some is = Symbol-value bytes (symbol-stands text found some is)
 
-pub next-is_other : (text : List ℕ) → is_blank (slice_index text 0) ≡ false → slice_index text 0 ≢ 35 → is_ascii_digit (slice_index text 0) ≡ false → symbol_of (slice_index text 0) (slice_index text 1) ≡ None → next_of text ≡ cond (identifier_len text == 0) (bad_of text) (name_of text)
+pub next-is_other : (text : List ℕ) → is_blank (slice_index text 0) ≡ false → slice_index text 0 ≢ 35 → is_ascii_digit (slice_index text 0) ≡ false
+    → symbol_of (slice_index text 0) (slice_index text 1) ≡ None → next_of text ≡ cond (identifier_len text == 0) (bad_of text) (name_of text)
 next-is_other text no_blank no_hash no_digit none =
     let test : (slice_index text 0 == 35) ≡ false = grind (arith, nat_tests) in
     next-other text no_blank test no_digit ∙ ap (λ o. symbol_or o (cond (identifier_len text == 0) (bad_of text) (name_of text))) none

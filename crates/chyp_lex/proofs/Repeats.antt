@@ -100,7 +100,8 @@ module _ (Piece : List ℕ → ℕ → Type 0) (step : List ℕ → ℕ) where
       (r.reaches text m piece)
 
   -- where a step takes the only piece there is, the pieces reach as far as the repeated step, or one more stands after them
-  pub Many-exact : ((t : List ℕ) → step t ≤ length t) → ((t : List ℕ) (n : ℕ) → Piece t n → (0 < n) × (n ≡ step t)) → {t : List ℕ} {n : ℕ} → BeginsWithMany Piece t n → (n ≡ repeated step t) ⊎ (0 < step (drop n t))
+  pub Many-exact : ((t : List ℕ) → step t ≤ length t) → ((t : List ℕ) (n : ℕ) → Piece t n → (0 < n) × (n ≡ step t)) → {t : List ℕ} {n : ℕ} → BeginsWithMany Piece t n → (n ≡ repeated step t)
+      ⊎ (0 < step (drop n t))
   Many-exact within exact (no_more {text}) =
       ⊎_elim
       (λ none. inl (sym (repeated-stop step text none)))

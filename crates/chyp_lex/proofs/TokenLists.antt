@@ -15,7 +15,8 @@ nil_from_length (b ∷ rest) h = absurd (omega arith)
 
 -- existence
 
-extended : (start n : ℕ) (text : List ℕ) (kind : Option TokenKind) → IsNext text n kind → (tokens : List Token) × AreTokensFrom (start + n) (drop n text) tokens → (tokens : List Token) × AreTokensFrom start text tokens
+extended : (start n : ℕ) (text : List ℕ) (kind : Option TokenKind) → IsNext text n kind → (tokens : List Token) × AreTokensFrom (start + n) (drop n text) tokens → (tokens : List Token)
+    × AreTokensFrom start text tokens
 extended start n text None next rest = (rest.0, passed_over next rest.1)
 extended start n text (Some kind) next rest = (token_at start text n kind ∷ rest.0, read next rest.1)
 
@@ -43,7 +44,8 @@ tokens_after_passed {n = n} (passed_over {n = m} other rest) next =
     rw same at rest
 tokens_after_passed (read other rest) next = let e = (IsNext-is other).kind_is ∙ sym (IsNext-is next).kind_is in cc
 
-tokens_after_read : {start n : ℕ} {text : List ℕ} {kind : TokenKind} {tokens : List Token} → AreTokensFrom start text tokens → IsNext text n (Some kind) → (rest : List Token) × (tokens ≡ token_at start text n kind ∷ rest) × AreTokensFrom (start + n) (drop n text) rest
+tokens_after_read : {start n : ℕ} {text : List ℕ} {kind : TokenKind} {tokens : List Token} → AreTokensFrom start text tokens → IsNext text n (Some kind) → (rest : List Token)
+    × (tokens ≡ token_at start text n kind ∷ rest) × AreTokensFrom (start + n) (drop n text) rest
 tokens_after_read nothing_left next = let is = (IsNext-is next).nonempty in absurd (omega arith)
 tokens_after_read (passed_over other rest) next = let e = (IsNext-is other).kind_is ∙ sym (IsNext-is next).kind_is in cc
 tokens_after_read {n = n} {kind = kind} (read {n = m} {kind = found} {tokens = after} other rest) next =
@@ -112,7 +114,8 @@ pub Continues-passed : (text : List ℕ) (at n : ℕ) (tokens : List Token) → 
 Continues-passed text at n tokens h is so_far rest these =
     so_far rest (passed_over (next-is_next (drop at text) n None (some-left text at h) is) (drop-rest text at n rest these))
 
-pub Continues-read : (text : List ℕ) (at n : ℕ) (kind : TokenKind) (tokens : List Token) (token : Token) → at < length text → next_of (drop at text) ≡ (n, Some kind) → token ≡ token_at at (drop at text) n kind → Continues text at tokens → Continues text (at + n) (tokens ++ token ∷ [])
+pub Continues-read : (text : List ℕ) (at n : ℕ) (kind : TokenKind) (tokens : List Token) (token : Token) → at < length text → next_of (drop at text) ≡ (n, Some kind)
+    → token ≡ token_at at (drop at text) n kind → Continues text at tokens → Continues text (at + n) (tokens ++ token ∷ [])
 Continues-read text at n kind tokens token h is token_is so_far rest these =
     rw (append_assoc, token_is) (so_far _ (read (next-is_next (drop at text) n (Some kind) (some-left text at h) is) (drop-rest text at n rest these)))
 

@@ -41,15 +41,18 @@ pub data BeginsWithMany (Piece : List ℕ → ℕ → Type 0) : List ℕ → ℕ
 
 -- the first n bytes of the text are an identifier: after its first character come those with the property XID_Continue
 pub data BeginsWithIdentifier : List ℕ → ℕ → Type 0 where
-  identifier : {text : List ℕ} {m n : ℕ} → BeginsWithCharacter begins_identifier text m → BeginsWithMany (BeginsWithCharacter is_xid_continue) (drop m text) n → BeginsWithIdentifier text (m + n)
+  identifier : {text : List ℕ} {m n : ℕ} → BeginsWithCharacter begins_identifier text m
+      → BeginsWithMany (BeginsWithCharacter is_xid_continue) (drop m text) n → BeginsWithIdentifier text (m + n)
 
 -- the first n bytes of the text are `.` and an identifier
 pub data BeginsWithMember : List ℕ → ℕ → Type 0 where
-  member : {text : List ℕ} {n : ℕ} → slice_get text 0 ≡ Some (byte ".") → BeginsWithIdentifier (drop 1 text) n → BeginsWithMember text (1 + n)
+  member : {text : List ℕ} {n : ℕ} → slice_get text 0 ≡ Some (byte ".") → BeginsWithIdentifier (drop 1 text) n
+      → BeginsWithMember text (1 + n)
 
 -- the first n bytes of the text are an identifier, followed one or more times by `.` and an identifier
 pub data BeginsWithDotted : List ℕ → ℕ → Type 0 where
-  dotted_name : {text : List ℕ} {m n : ℕ} → BeginsWithIdentifier text m → 0 < n → BeginsWithMany BeginsWithMember (drop m text) n → BeginsWithDotted text (m + n)
+  dotted_name : {text : List ℕ} {m n : ℕ} → BeginsWithIdentifier text m → 0 < n → BeginsWithMany BeginsWithMember (drop m text) n
+      → BeginsWithDotted text (m + n)
 
 -- the first n bytes of the text are the symbol of this kind
 pub data BeginsWithSymbol : List ℕ → ℕ → TokenKind → Type 0 where
@@ -92,9 +95,12 @@ kind_of_word name = unwrap_or (lookup (bytes_eq name) reserved_words) Ident
 -- the first n bytes of the text are a lexeme: a token of a kind, or blanks or a comment, which are no token
 pub data BeginsWith : List ℕ → ℕ → Option TokenKind → Type 0 where
   blanks : {text : List ℕ} {n : ℕ} → BeginsWithRun is_blank text n → BeginsWith text n None
-  comment : {text : List ℕ} {n : ℕ} → slice_get text 0 ≡ Some (byte "#") → BeginsWithRun (λ b. not (is_line_feed b)) text n → BeginsWith text n None
+  comment : {text : List ℕ} {n : ℕ} → slice_get text 0 ≡ Some (byte "#") → BeginsWithRun (λ b. not (is_line_feed b)) text n
+      → BeginsWith text n None
   word : {text : List ℕ} {n : ℕ} → BeginsWithIdentifier text n → BeginsWith text n (Some (kind_of_word (take n text)))
   dotted : {text : List ℕ} {n : ℕ} → BeginsWithDotted text n → BeginsWith text n (Some Dotted)
-  number : {text : List ℕ} {n : ℕ} → BeginsWithRun is_ascii_digit text n → digits_value 10 (take n text) < 2 ^ 64 → BeginsWith text n (Some Number)
-  too_large : {text : List ℕ} {n : ℕ} → BeginsWithRun is_ascii_digit text n → 2 ^ 64 ≤ digits_value 10 (take n text) → BeginsWith text n (Some Bad)
+  number : {text : List ℕ} {n : ℕ} → BeginsWithRun is_ascii_digit text n → digits_value 10 (take n text) < 2 ^ 64
+      → BeginsWith text n (Some Number)
+  too_large : {text : List ℕ} {n : ℕ} → BeginsWithRun is_ascii_digit text n → 2 ^ 64 ≤ digits_value 10 (take n text)
+      → BeginsWith text n (Some Bad)
   symbol : {text : List ℕ} {n : ℕ} {kind : TokenKind} → BeginsWithSymbol text n kind → BeginsWith text n (Some kind)

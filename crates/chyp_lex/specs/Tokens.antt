@@ -2,6 +2,7 @@
 use Rattle.std.specs.Prelude.{◌≡◌, ℕ, ◌+◌, ◌<◌, ◌≤◌, List, [], ◌∷◌, length, take, drop, Option, Some, None}
 use Rattle.std.specs.Str.Parse.{digits_value}
 use Rattle.bstr.specs.Utf8.{decoded}
+use Rattle.chyp_base.specs.declared.limits.TheConstants.{MAX_TEXT_LEN}
 use Rattle.chyp_lex.specs.declared.token.TokenKind.{TokenKind}
 use Rattle.chyp_lex.specs.declared.token.TokenKind.TheVariants.{Number, Bad}
 use Rattle.chyp_lex.specs.declared.token.Token.{Token}
@@ -9,7 +10,7 @@ use Rattle.chyp_lex.specs.Lexemes.{BeginsWith}
 
 -- the most bytes that a text may have
 abbrev pub text_limit : ℕ
-text_limit = 1048576
+text_limit = MAX_TEXT_LEN
 
 -- the first n bytes of the text are a lexeme, and no lexeme that the text begins with is longer
 pub record IsLongest (text : List ℕ) (n : ℕ) (kind : Option TokenKind) : Type 0 where
@@ -24,7 +25,8 @@ size_or_one None size = 1
 -- what comes first in a text that isn't empty: the longest lexeme, or a bad token where no lexeme begins
 pub data IsNext : List ℕ → ℕ → Option TokenKind → Type 0 where
   lexeme : {text : List ℕ} {n : ℕ} {kind : Option TokenKind} → IsLongest text n kind → IsNext text n kind
-  bad : {text : List ℕ} → 0 < length text → ((n : ℕ) (kind : Option TokenKind) → ¬ BeginsWith text n kind) → IsNext text (size_or_one (decoded text).char (decoded text).size) (Some Bad)
+  bad : {text : List ℕ} → 0 < length text → ((n : ℕ) (kind : Option TokenKind) → ¬ BeginsWith text n kind)
+      → IsNext text (size_or_one (decoded text).char (decoded text).size) (Some Bad)
 
 -- the value of a number, and 0 for every other token
 abbrev pub value_of : TokenKind → List ℕ → ℕ
@@ -38,8 +40,10 @@ token_at start text n kind = record { kind = kind; start = start; len = n; value
 -- the tokens of a text that begins at this place
 pub data AreTokensFrom : ℕ → List ℕ → List Token → Type 0 where
   nothing_left : {start : ℕ} → AreTokensFrom start [] []
-  passed_over : {start n : ℕ} {text : List ℕ} {tokens : List Token} → IsNext text n None → AreTokensFrom (start + n) (drop n text) tokens → AreTokensFrom start text tokens
-  read : {start n : ℕ} {text : List ℕ} {kind : TokenKind} {tokens : List Token} → IsNext text n (Some kind) → AreTokensFrom (start + n) (drop n text) tokens → AreTokensFrom start text (token_at start text n kind ∷ tokens)
+  passed_over : {start n : ℕ} {text : List ℕ} {tokens : List Token} → IsNext text n None → AreTokensFrom (start + n) (drop n text) tokens
+      → AreTokensFrom start text tokens
+  read : {start n : ℕ} {text : List ℕ} {kind : TokenKind} {tokens : List Token} → IsNext text n (Some kind)
+      → AreTokensFrom (start + n) (drop n text) tokens → AreTokensFrom start text (token_at start text n kind ∷ tokens)
 
 -- the tokens of a text
 abbrev pub AreTokens : List ℕ → List Token → Type 0

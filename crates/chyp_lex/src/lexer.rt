@@ -4,11 +4,8 @@ ghost use Rattle.chyp_lex.specs.Tokens.{AreSpans, AreTokens};
 
 use crate::Token;
 use crate::lexeme::next_lexeme;
-use chyp_base::NoMemory;
+use chyp_base::{MAX_TEXT_LEN, NoMemory};
 use std::alloc::Global;
-
-/// The longest text that `lex` takes: 1 MiB.
-pub const MAX_TEXT_LEN: usize = 1_048_576;
 
 /// The tokens of a text, which is `first` followed by `second`. `second` has to be empty.
 ///

@@ -6,7 +6,8 @@
 //! bad token takes one character or one byte. The tokens' `TokenKind`, places and values are those
 //! of the definition `AreTokens`, which the code isn't part of: exactly one list fits each text,
 //! says `every_text_has_one_token_list`. The tokens stand in order inside the text, none is empty, and
-//! the bytes of names are UTF-8, says `each_name_is_text`. A text has at most `MAX_TEXT_LEN` bytes, and
+//! the bytes of names are UTF-8, says `each_name_is_text`. A text has at most
+//! `MAX_TEXT_LEN` bytes, and
 //! `lex` fails for want of memory alone.
 #![tactic(auto)]
 
@@ -19,5 +20,5 @@ mod token;
 mod word;
 
 pub use laws::{each_name_is_text, every_text_has_one_token_list};
-pub use lexer::{MAX_TEXT_LEN, lex};
+pub use lexer::lex;
 pub use token::{Token, TokenKind};

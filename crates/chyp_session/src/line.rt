@@ -71,7 +71,8 @@ fn name_or_dash(name: Option<&Name>) -> &str
 // The words of a verdict, or `pending`.
 fn write_outcome<K: Sink>(verdict: Option<&Verdict>, at: Place, sink: &mut K) -> Result<(), Failed>
     requires { K.faults sink.old < 2 ^ 64 - 1 }
-    ensures { Writes (K.held sink.old) (K.held sink.new) (K.faults sink.old) (K.faults sink.new) result (verdict_or_pending (option_copied verdict.entry) at) }
+    ensures { Writes (K.held sink.old) (K.held sink.new) (K.faults sink.old) (K.faults sink.new) result
+        (verdict_or_pending (option_copied verdict.entry) at) }
 {
     match verdict {
         Some(verdict) => write_verdict(verdict, at, sink),
@@ -124,7 +125,8 @@ fn write_at<K: Sink>(words: &str, at: Place, sink: &mut K) -> Result<(), Failed>
 // `step K` and some words
 fn write_step<K: Sink>(step: u32, words: &str, sink: &mut K) -> Result<(), Failed>
     requires { K.faults sink.old < 2 ^ 64 - 1 }
-    ensures { Writes (K.held sink.old) (K.held sink.new) (K.faults sink.old) (K.faults sink.new) result (codes "step " ++ decimal step ++ words.now) }
+    ensures { Writes (K.held sink.old) (K.held sink.new) (K.faults sink.old) (K.faults sink.new) result
+        (codes "step " ++ decimal step ++ words.now) }
 {
     let mut steps = Buffer::new();
     write_all(sink, &["step ", steps.format(step), words])
@@ -133,7 +135,8 @@ fn write_step<K: Sink>(step: u32, words: &str, sink: &mut K) -> Result<(), Faile
 // `step K`, some words and a number
 fn write_step_and<K: Sink>(step: u32, words: &str, number: u64, sink: &mut K) -> Result<(), Failed>
     requires { K.faults sink.old < 2 ^ 64 - 1 }
-    ensures { Writes (K.held sink.old) (K.held sink.new) (K.faults sink.old) (K.faults sink.new) result (codes "step " ++ decimal step ++ words.now ++ decimal number) }
+    ensures { Writes (K.held sink.old) (K.held sink.new) (K.faults sink.old) (K.faults sink.new) result
+        (codes "step " ++ decimal step ++ words.now ++ decimal number) }
 {
     let mut steps = Buffer::new();
     let mut numbers = Buffer::new();

@@ -31,7 +31,8 @@ pub fn write_reply<K: Sink>(reply: &Reply, sink: &mut K) -> Result<(), Failed>
 // `total T good G`
 fn write_total<K: Sink>(total: u64, good: u64, sink: &mut K) -> Result<(), Failed>
     requires { K.faults sink.old < 2 ^ 64 - 1 }
-    ensures { Writes (K.held sink.old) (K.held sink.new) (K.faults sink.old) (K.faults sink.new) result (reply_text (Reply.Total total good)) }
+    ensures { Writes (K.held sink.old) (K.held sink.new) (K.faults sink.old) (K.faults sink.new) result
+        (reply_text (Reply.Total total good)) }
 {
     let mut totals = Buffer::new();
     let mut goods = Buffer::new();

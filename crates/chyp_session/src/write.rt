@@ -28,7 +28,8 @@ pub fn write_text<K: Sink>(sink: &mut K, text: &[u8]) -> Result<(), Failed>
 /// `Failed` where the sink failed; a prefix of them was written then.
 pub fn write_all<K: Sink>(sink: &mut K, pieces: &[&str]) -> Result<(), Failed>
     requires { K.faults sink.old < 2 ^ 64 - 1 }
-    ensures { Writes (K.held sink.old) (K.held sink.new) (K.faults sink.old) (K.faults sink.new) result (flat_map (λ piece. piece.now) pieces.now) }
+    ensures { Writes (K.held sink.old) (K.held sink.new) (K.faults sink.old) (K.faults sink.new) result
+        (flat_map (λ piece. piece.now) pieces.now) }
 {
     for piece in pieces {
         write_text(sink, piece.as_bytes())?;

@@ -55,7 +55,8 @@ mutual
   atom-drive (in_parentheses {depth} {open' = x} y {inner = zs} open' is close) rest e ends =
       symbol-takes (atom (suc depth)) (atom depth ∷ tail (atoms_left depth) ∷ tail (pars_left depth) ∷ token RightParenthesis ∷ []) e x ((zs ++ y ∷ []) ++ rest) (ap (answer (atom (suc depth))) open')
       ∙ ap (verdict (term_then depth (next (token RightParenthesis) e))) (append_assoc zs (y ∷ []) rest)
-      ∙ term-drive is (y ∷ rest) (next (token RightParenthesis) e) (other RightParenthesis LeftBracket y rest close (λ c. cc)) (other RightParenthesis Star y rest close (λ c. cc)) (other RightParenthesis Semicolon y rest close (λ c. cc))
+      ∙ term-drive is (y ∷ rest) (next (token RightParenthesis) e) (other RightParenthesis LeftBracket y rest close (λ c. cc)) (other RightParenthesis Star y rest close (λ c. cc))
+          (other RightParenthesis Semicolon y rest close (λ c. cc))
       ∙ token-takes RightParenthesis e y rest close
 
   pub atoms-drive : {depth : ℕ} {xs : List NumberedToken} {ts : List TermTree} → AreAtoms depth xs ts → (rest : List NumberedToken) (e : Expected) → Not LeftBracket rest → Not Star rest →
@@ -70,7 +71,8 @@ mutual
       verdict (next (atom depth) (next (tail (atoms_left depth)) e)) (xs ++ rest) ≡ verdict e rest
   par-drive (tensor are) rest e no_bracket no_star = atoms-drive are rest e no_bracket no_star
 
-  pub pars-drive : {depth : ℕ} {xs : List NumberedToken} {ts : List TermTree} {ms : List ℕ} → ArePars depth xs ts ms → (rest : List NumberedToken) (e : Expected) → Not LeftBracket rest → Not Star rest → Not Semicolon rest →
+  pub pars-drive : {depth : ℕ} {xs : List NumberedToken} {ts : List TermTree} {ms : List ℕ} → ArePars depth xs ts ms → (rest : List NumberedToken) (e : Expected) → Not LeftBracket rest → Not Star rest
+      → Not Semicolon rest →
       verdict (term_then depth e) (xs ++ rest) ≡ verdict e rest
   pars-drive (one_par {depth} is) rest e no_bracket no_star no_semi = par-drive is rest (next (tail (pars_left depth)) e) no_bracket no_star ∙ tail_skips (pars_left depth) e rest no_semi
   pars-drive (more_pars {depth} {par = a} {rest = b} x is semi are) rest e no_bracket no_star no_semi =
@@ -175,7 +177,8 @@ steps-to-goal x xs is = verdict-step steps goal x xs (ap (λ b. if b then Some g
 
 goal-to-reason : (x : NumberedToken) (xs : List NumberedToken) → kind_of x ≡ QuestionMark → verdict goal (x ∷ xs) ≡ verdict (next (tail reason_left) nothing) xs
 goal-to-reason x xs is =
-    verdict-step goal (next (tail reason_left) nothing) x xs (ap (λ b. if b then Some (next (tail reason_left) nothing) else proceed (answer (atom most_nested) (kind_of x)) None goal_more) (same-self (kind_of x) QuestionMark is))
+    verdict-step goal (next (tail reason_left) nothing) x xs
+        (ap (λ b. if b then Some (next (tail reason_left) nothing) else proceed (answer (atom most_nested) (kind_of x)) None goal_more) (same-self (kind_of x) QuestionMark is))
 
 reason-drive-end : {xs : List NumberedToken} {t : ReasonAst} → IsReason xs t → verdict (next (tail reason_left) nothing) xs ≡ accepted
 reason-drive-end {xs} is = ap (verdict (next (tail reason_left) nothing)) (sym (append-nil xs)) ∙ reason-drive is [] nothing (λ k. k) ∙ verdict-done nothing refl

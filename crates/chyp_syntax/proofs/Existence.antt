@@ -77,7 +77,8 @@ numbers-tree xs is =
 swap-tree : (x : NumberedToken) (ys : List NumberedToken) → kind_of x ≡ WordSw → verdict (next (tail places_left) nothing) ys ≡ accepted → (u : TermTree) × IsSwap (x ∷ ys) u
 swap-tree x ys is at = go (one_tail places_left nothing ys at)
   where
-    go : (verdict nothing ys ≡ accepted) ⊎ ((y : NumberedToken) × (zs : List NumberedToken) × (ys ≡ y ∷ zs) × (kind_of y ≡ LeftBracket) × (verdict (onto (behind places_left) nothing) zs ≡ accepted)) → (u : TermTree) × IsSwap (x ∷ ys) u
+    go : (verdict nothing ys ≡ accepted) ⊎ ((y : NumberedToken) × (zs : List NumberedToken) × (ys ≡ y ∷ zs) × (kind_of y ≡ LeftBracket) × (verdict (onto (behind places_left) nothing) zs ≡ accepted))
+        → (u : TermTree) × IsSwap (x ∷ ys) u
     go (inl ended) = (swap x.0 None, subst (λ zs. IsSwap (x ∷ zs) (swap x.0 None)) (sym (no_token ys ended)) (two_places {word = x} is))
     go (inr w) =
         let h = split w.1 (token Number ∷ tail numbers_left ∷ []) (next (token RightBracket) nothing) w.4 in
@@ -97,12 +98,14 @@ Inner depth = (xs : List NumberedToken) → verdict (term_then depth nothing) xs
 abbrev AtomTree : ℕ → List NumberedToken → Type 0
 AtomTree depth xs = (u : TermTree) × IsAtom depth xs u
 
-atom-single : (depth : ℕ) (x : NumberedToken) (ys : List NumberedToken) (rs : List Symbol) (u : TermTree) → IsAtom depth (x ∷ []) u → rs ≡ [] → verdict (onto rs nothing) ys ≡ accepted → AtomTree depth (x ∷ ys)
+atom-single : (depth : ℕ) (x : NumberedToken) (ys : List NumberedToken) (rs : List Symbol) (u : TermTree) → IsAtom depth (x ∷ []) u → rs ≡ [] → verdict (onto rs nothing) ys ≡ accepted
+    → AtomTree depth (x ∷ ys)
 atom-single depth x ys rs u is none' at =
     let ended : ys ≡ [] = no_token ys (ap (λ ss. verdict (onto ss nothing) ys) (sym none') ∙ at) in
     (u, subst (λ zs. IsAtom depth (x ∷ zs) u) (sym ended) is)
 
-atom-inner : (depth : ℕ) (x : NumberedToken) (ys : List NumberedToken) → Inner depth → kind_of x ≡ LeftParenthesis → verdict (term_then depth (next (token RightParenthesis) nothing)) ys ≡ accepted → AtomTree (suc depth) (x ∷ ys)
+atom-inner : (depth : ℕ) (x : NumberedToken) (ys : List NumberedToken) → Inner depth → kind_of x ≡ LeftParenthesis → verdict (term_then depth (next (token RightParenthesis) nothing)) ys ≡ accepted
+    → AtomTree (suc depth) (x ∷ ys)
 atom-inner depth x ys inner is at =
     let h = split ys (atom depth ∷ tail (atoms_left depth) ∷ tail (pars_left depth) ∷ []) (next (token RightParenthesis) nothing) at in
     let term = inner h.front h.front_is in
@@ -136,14 +139,17 @@ atom-tree depth inner xs is =
 
 -- ---- terms
 
-par-tree : (depth : ℕ) → ((d : ℕ) → depth ≡ suc d → Inner d) → (xs : List NumberedToken) → verdict (next (atom depth) (next (tail (atoms_left depth)) nothing)) xs ≡ accepted → (u : TermTree) × IsPar depth xs u
+par-tree : (depth : ℕ) → ((d : ℕ) → depth ≡ suc d → Inner d) → (xs : List NumberedToken) → verdict (next (atom depth) (next (tail (atoms_left depth)) nothing)) xs ≡ accepted → (u : TermTree)
+    × IsPar depth xs u
 par-tree depth inner xs is =
-    let w = parts_tree (IsAtom depth) (λ zs ts _. AreAtoms depth zs ts) (atom depth ∷ []) (atoms_left depth) (λ _. []) (atoms_one depth) (atoms_more depth) refl (atom-tree depth inner) (length xs) xs (omega arith) is in
+    let w = parts_tree (IsAtom depth) (λ zs ts _. AreAtoms depth zs ts) (atom depth ∷ []) (atoms_left depth) (λ _. []) (atoms_one depth) (atoms_more depth) refl (atom-tree depth inner) (length xs) xs
+        (omega arith) is in
     (tensor_of w.0, tensor w.2)
 
 term-step : (depth : ℕ) → ((d : ℕ) → depth ≡ suc d → Inner d) → Inner depth
 term-step depth inner xs is =
-    let w = parts_tree (IsPar depth) (ArePars depth) (atom depth ∷ tail (atoms_left depth) ∷ []) (pars_left depth) (λ n. n ∷ []) (pars_one depth) (pars_more depth) refl (par-tree depth inner) (length xs) xs (omega arith) is in
+    let w = parts_tree (IsPar depth) (ArePars depth) (atom depth ∷ tail (atoms_left depth) ∷ []) (pars_left depth) (λ n. n ∷ []) (pars_one depth) (pars_more depth) refl (par-tree depth inner)
+        (length xs) xs (omega arith) is in
     (chain_of w.0 w.1, composite w.2)
 
 no-less : (d : ℕ) → zero ≡ suc d → ⊥
@@ -158,7 +164,8 @@ term-tree (suc depth) = term-step (suc depth) (λ d e. subst Inner (one-less dep
 
 -- ---- reasons
 
-signed-cases : (k : TokenKind) (x : NumberedToken) (ys : List NumberedToken) (rs : List Symbol) → kind_of x ≡ k → answer signed k ≡ takes rs → verdict (onto rs nothing) ys ≡ accepted → (u : SignedAst) × IsSigned (x ∷ ys) u
+signed-cases : (k : TokenKind) (x : NumberedToken) (ys : List NumberedToken) (rs : List Symbol) → kind_of x ≡ k → answer signed k ≡ takes rs → verdict (onto rs nothing) ys ≡ accepted → (u : SignedAst)
+    × IsSigned (x ∷ ys) u
 signed-cases Ident x ys rs e is at =
     let ended : ys ≡ [] = no_token ys (ap (λ ss. verdict (onto ss nothing) ys) (same-takes [] rs is) ∙ at) in
     (record { minus = false; name = x.0 }, subst (λ zs. IsSigned (x ∷ zs) (record { minus = false; name = x.0 })) (sym ended) (forwards {word = x} (inl e)))
@@ -189,7 +196,8 @@ signeds-tree xs is =
     (w.0, w.2)
 
 -- a reason from its `by` on
-by-cases : (k : TokenKind) (b x : NumberedToken) (ys : List NumberedToken) (rs : List Symbol) → kind_of b ≡ WordBy → kind_of x ≡ k → answer reason k ≡ takes rs → verdict (onto rs nothing) ys ≡ accepted →
+by-cases : (k : TokenKind) (b x : NumberedToken) (ys : List NumberedToken) (rs : List Symbol) → kind_of b ≡ WordBy → kind_of x ≡ k → answer reason k ≡ takes rs
+    → verdict (onto rs nothing) ys ≡ accepted →
     (u : ReasonAst) × IsReason (b ∷ x ∷ ys) u
 by-cases Ident b x ys rs by e is at = let found = signed-cases Ident x ys rs e is at in (Rule found.0, by_rule {word = b} by found.1)
 by-cases Dotted b x ys rs by e is at = let found = signed-cases Dotted x ys rs e is at in (Rule found.0, by_rule {word = b} by found.1)
@@ -207,7 +215,8 @@ by-cases _ b x ys rs by e is at = absurd (no-answer rs is)
 pub reason-tree : (xs : List NumberedToken) → verdict (next (tail reason_left) nothing) xs ≡ accepted → (u : ReasonAst) × IsReason xs u
 reason-tree xs is = go (one_tail reason_left nothing xs is)
   where
-    go : (verdict nothing xs ≡ accepted) ⊎ ((x : NumberedToken) × (ys : List NumberedToken) × (xs ≡ x ∷ ys) × (kind_of x ≡ WordBy) × (verdict (onto (behind reason_left) nothing) ys ≡ accepted)) → (u : ReasonAst) × IsReason xs u
+    go : (verdict nothing xs ≡ accepted) ⊎ ((x : NumberedToken) × (ys : List NumberedToken) × (xs ≡ x ∷ ys) × (kind_of x ≡ WordBy) × (verdict (onto (behind reason_left) nothing) ys ≡ accepted))
+        → (u : ReasonAst) × IsReason xs u
     go (inl ended) = (Plain, subst (λ zs. IsReason zs Plain) (sym (no_token xs ended)) none)
     go (inr w) =
         let v = one_symbol reason nothing w.1 refl w.4 in

@@ -124,7 +124,8 @@ pub fine-step : (e : Expected) (k : TokenKind) → fine e ≡ true → IfFine (s
 fine-step nothing k is = tt
 fine-step statement k is = fine-start k
 fine-step steps k is = fine-if (same_kind k Equals) goal None refl tt
-fine-step goal k is = fine-if (same_kind k QuestionMark) (next (tail reason_left) nothing) (proceed (answer (atom most_nested) k) None goal_more) refl (fine-proceed (answer (atom most_nested) k) None goal_more (fine-answer (atom most_nested) k) tt refl)
+fine-step goal k is = fine-if (same_kind k QuestionMark) (next (tail reason_left) nothing) (proceed (answer (atom most_nested) k) None goal_more) refl
+    (fine-proceed (answer (atom most_nested) k) None goal_more (fine-answer (atom most_nested) k) tt refl)
 fine-step (next s e) k is =
     let p = both (fine_symbol s) (fine e) is in
     fine-proceed (answer s k) (step e k) e (fine-answer s k) (fine-step e k p.1) p.1
@@ -157,7 +158,8 @@ halts [] e ys ok is = go (ends e) refl is
         subst (λ zs. Halts e [] zs) nothing_left (record { front = []; left = e; joined = refl; leads = λ zs. refl; halts = open'; fine_left = ok })
 halts (x ∷ xs) e ys ok is = go (λ e' fine' at. halts xs e' ys fine' at) (step e (kind_of x)) refl (fine-step e (kind_of x) ok) is
   where
-    go : ((e' : Expected) → fine e' ≡ true → verdict e' xs ≡ stopped ys → Halts e' xs ys) → (o : Option Expected) → step e (kind_of x) ≡ o → IfFine o → go_on o (λ e'. verdict e' xs) (stopped (x ∷ xs)) ≡ stopped ys → Halts e (x ∷ xs) ys
+    go : ((e' : Expected) → fine e' ≡ true → verdict e' xs ≡ stopped ys → Halts e' xs ys) → (o : Option Expected) → step e (kind_of x) ≡ o → IfFine o
+        → go_on o (λ e'. verdict e' xs) (stopped (x ∷ xs)) ≡ stopped ys → Halts e (x ∷ xs) ys
     go before None here fine' at =
         let left : x ∷ xs ≡ ys = same-stop (x ∷ xs) ys at in
         subst (λ zs. Halts e (x ∷ xs) zs) left (record { front = []; left = e; joined = refl; leads = λ zs. refl; halts = here; fine_left = ok })
@@ -227,7 +229,8 @@ completes nothing n ok = record { tokens = []; accepts = verdict-done nothing re
 completes steps n ok = record { tokens = []; accepts = verdict-done steps refl; plain = λ t begins. begins }
 completes statement n ok = record {
   tokens = a_token WordShow ∷ a_token Ident ∷ [];
-  accepts = verdict-step statement (next name nothing) (n, a_token WordShow) ((n + 1, a_token Ident) ∷ []) refl ∙ symbol-takes name [] nothing (n + 1, a_token Ident) [] refl ∙ verdict-done nothing refl;
+  accepts = verdict-step statement (next name nothing) (n, a_token WordShow) ((n + 1, a_token Ident) ∷ []) refl ∙ symbol-takes name [] nothing (n + 1, a_token Ident) [] refl
+      ∙ verdict-done nothing refl;
   plain = plain-token WordShow n ((n + 1, a_token Ident) ∷ []) (no-opener WordShow refl);
 }
 completes goal n ok = record {

@@ -72,7 +72,8 @@ reason-one-way _ _ r s _ _ (by_rule {word = x} {tokens = a} k is) (by_simp {word
 reason-one-way _ _ r s _ _ (by_simp {word = y} {simp' = m} {open' = z} w {tokens = b} k' k1 k2 are k3) (by_rule {word = x} {tokens = a} k is) er es e =
     let h = heads y x (m ∷ z ∷ ((b ++ w ∷ []) ++ r)) (a ++ s) e in
     absurd (begun WordSimp (a ++ s) (z ∷ ((b ++ w ∷ []) ++ r)) m k1 (signed-no-simp is s) (sym h.1))
-reason-one-way _ _ r s _ _ (by_simp {word = x} {simp' = m} {open' = z} w {tokens = a} {trees = t} k k1 k2 are k3) (by_simp {word = x'} {simp' = m'} {open' = z'} w' {tokens = b} {trees = u} k' k1' k2' are' k3') er es e =
+reason-one-way _ _ r s _ _ (by_simp {word = x} {simp' = m} {open' = z} w {tokens = a} {trees = t} k k1 k2 are k3)
+    (by_simp {word = x'} {simp' = m'} {open' = z'} w' {tokens = b} {trees = u} k' k1' k2' are' k3') er es e =
     let h0 = heads x x' (m ∷ z ∷ ((a ++ w ∷ []) ++ r)) (m' ∷ z' ∷ ((b ++ w' ∷ []) ++ s)) e in
     let h1 = heads m m' (z ∷ ((a ++ w ∷ []) ++ r)) (z' ∷ ((b ++ w' ∷ []) ++ s)) h0.1 in
     let h2 = heads z z' ((a ++ w ∷ []) ++ r) ((b ++ w' ∷ []) ++ s) h1.1 in
@@ -110,7 +111,8 @@ steps-one-way (last_hole (to_hole {equals = x} {mark = y} {by = a} k m why)) _ _
 steps-one-way (more_steps {rest = rest} (to_term {equals = x'} {term = b} {by = c} k' term why') are) _ _ (last_hole (to_hole {equals = x} {mark = y} {by = a} k m why)) e =
     let h0 = heads x' x ((b ++ c) ++ rest) (y ∷ a) e in
     absurd (begun QuestionMark (b ++ (c ++ rest)) a y m (term-no-mark term (c ++ rest)) (sym (append_assoc b c rest) ∙ h0.1))
-steps-one-way (more_steps {rest = r} {trees = ts} (to_term {equals = x} {term = a} {by = b} {tree = t} {reason = v} k term why) are) _ _ (more_steps {rest = s} {trees = us} (to_term {equals = y} {term = c} {by = d} {tree = u} {reason = w} k' term' why') are') e =
+steps-one-way (more_steps {rest = r} {trees = ts} (to_term {equals = x} {term = a} {by = b} {tree = t} {reason = v} k term why) are) _ _
+    (more_steps {rest = s} {trees = us} (to_term {equals = y} {term = c} {by = d} {tree = u} {reason = w} k' term' why') are') e =
     let h0 = heads x y ((a ++ b) ++ r) ((c ++ d) ++ s) e in
     let begins = steps-begin are in
     let begins' = steps-begin are' in
@@ -124,7 +126,8 @@ steps-one-way (more_steps {rest = r} {trees = ts} (to_term {equals = x} {term = 
 
 -- what a statement behind its first word is
 abbrev Reading : TokenKind → List NumberedToken → StatementTree → Type 0
-Reading WordGen ys t = (a : NumberedToken) × (b : NumberedToken) × (c : NumberedToken) × (d : NumberedToken) × (f : NumberedToken) × (ys ≡ a ∷ b ∷ c ∷ d ∷ f ∷ []) × (t ≡ generator a.0 (value_of c) (value_of f))
+Reading WordGen ys t = (a : NumberedToken) × (b : NumberedToken) × (c : NumberedToken) × (d : NumberedToken) × (f : NumberedToken) × (ys ≡ a ∷ b ∷ c ∷ d ∷ f ∷ [])
+    × (t ≡ generator a.0 (value_of c) (value_of f))
 Reading WordLet ys t = (a : NumberedToken) × (b : NumberedToken) × (zs : List NumberedToken) × (u : TermTree) × (ys ≡ a ∷ b ∷ zs) × IsTerm most_nested zs u × (t ≡ definition a.0 u)
 Reading WordRule ys t =
     (a : NumberedToken) × (b : NumberedToken) × (left : List NumberedToken) × (c : NumberedToken) × (right : List NumberedToken) × (u : TermTree) × (v : TermTree) ×
@@ -173,7 +176,8 @@ same-reading WordGen ys t u p q =
     let first : p.0 ≡ q.0 = cc in
     let third : p.2 ≡ q.2 = cc in
     let fifth : p.4 ≡ q.4 = cc in
-    p.6 ∙ ap (λ (z : NumberedToken). generator z.0 (value_of p.2) (value_of p.4)) first ∙ ap (λ z. generator q.0.0 (value_of z) (value_of p.4)) third ∙ ap (λ z. generator q.0.0 (value_of q.2) (value_of z)) fifth ∙ sym q.6
+    p.6 ∙ ap (λ (z : NumberedToken). generator z.0 (value_of p.2) (value_of p.4)) first ∙ ap (λ z. generator q.0.0 (value_of z) (value_of p.4)) third
+        ∙ ap (λ z. generator q.0.0 (value_of q.2) (value_of z)) fifth ∙ sym q.6
 same-reading WordLet ys t u p q =
     let h0 = heads p.0 q.0 (p.1 ∷ p.2) (q.1 ∷ q.2) (sym p.4 ∙ q.4) in
     let h1 = heads p.1 q.1 p.2 q.2 h0.1 in
@@ -182,10 +186,12 @@ same-reading WordLet ys t u p q =
 same-reading WordRule ys t u p q =
     let h0 = heads p.0 q.0 (p.1 ∷ (p.2 ++ p.3 ∷ p.4)) (q.1 ∷ (q.2 ++ q.3 ∷ q.4)) (sym p.7 ∙ q.7) in
     let h1 = heads p.1 q.1 (p.2 ++ p.3 ∷ p.4) (q.2 ++ q.3 ∷ q.4) h0.1 in
-    let left = term-one-way most_nested p.2 q.2 (p.3 ∷ p.4) (q.3 ∷ q.4) p.5 q.5 p.8 q.8 (ends-kind Equals p.3 p.4 p.9 (λ c. cc) (λ c. cc) (λ c. cc)) (ends-kind Equals q.3 q.4 q.9 (λ c. cc) (λ c. cc) (λ c. cc)) h1.1 in
+    let left = term-one-way most_nested p.2 q.2 (p.3 ∷ p.4) (q.3 ∷ q.4) p.5 q.5 p.8 q.8 (ends-kind Equals p.3 p.4 p.9 (λ c. cc) (λ c. cc) (λ c. cc))
+        (ends-kind Equals q.3 q.4 q.9 (λ c. cc) (λ c. cc) (λ c. cc)) h1.1 in
     let h2 = heads p.3 q.3 p.4 q.4 left.1 in
     let right = term-to-end p.4 q.4 p.6 q.6 p.10 q.10 h2.1 in
-    p.11 ∙ ap (λ (z : NumberedToken). rule z.0 p.5 p.3.0 p.6) h0.0 ∙ ap (λ v. rule q.0.0 v p.3.0 p.6) left.0 ∙ ap (λ (z : NumberedToken). rule q.0.0 q.5 z.0 p.6) h2.0 ∙ ap (rule q.0.0 q.5 q.3.0) right ∙ sym q.11
+    p.11 ∙ ap (λ (z : NumberedToken). rule z.0 p.5 p.3.0 p.6) h0.0 ∙ ap (λ v. rule q.0.0 v p.3.0 p.6) left.0 ∙ ap (λ (z : NumberedToken). rule q.0.0 q.5 z.0 p.6) h2.0 ∙ ap (rule q.0.0 q.5 q.3.0) right
+        ∙ sym q.11
 same-reading WordRewrite ys t u p q =
     let h0 = heads p.0 q.0 (p.1 ∷ (p.2 ++ p.3)) (q.1 ∷ (q.2 ++ q.3)) (sym p.6 ∙ q.6) in
     let h1 = heads p.1 q.1 (p.2 ++ p.3) (q.2 ++ q.3) h0.1 in

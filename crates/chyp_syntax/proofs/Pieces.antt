@@ -21,13 +21,16 @@ pub name_there : (tokens : List Token) (at : ℕ) → BeginsWithName (tokens_fro
     (token : Token) × (at < length tokens) × (tokens_from tokens at ≡ (at, token) ∷ tokens_from tokens (at + 1)) × IsName (at, token)
 name_there tokens at begins = go (tokens_from tokens at) refl begins
   where
-    from_kind : (kind : TokenKind) → (kind ≡ Ident) → BeginsWithKind kind (tokens_from tokens at) → (token : Token) × (at < length tokens) × (tokens_from tokens at ≡ (at, token) ∷ tokens_from tokens (at + 1)) × IsName (at, token)
+    from_kind : (kind : TokenKind) → (kind ≡ Ident) → BeginsWithKind kind (tokens_from tokens at) → (token : Token) × (at < length tokens)
+        × (tokens_from tokens at ≡ (at, token) ∷ tokens_from tokens (at + 1)) × IsName (at, token)
     from_kind kind e is = let h = token_there tokens at kind is in (h.0, h.1, h.2, inl (h.3 ∙ e))
 
-    from_kind' : (kind : TokenKind) → (kind ≡ Dotted) → BeginsWithKind kind (tokens_from tokens at) → (token : Token) × (at < length tokens) × (tokens_from tokens at ≡ (at, token) ∷ tokens_from tokens (at + 1)) × IsName (at, token)
+    from_kind' : (kind : TokenKind) → (kind ≡ Dotted) → BeginsWithKind kind (tokens_from tokens at) → (token : Token) × (at < length tokens)
+        × (tokens_from tokens at ≡ (at, token) ∷ tokens_from tokens (at + 1)) × IsName (at, token)
     from_kind' kind e is = let h = token_there tokens at kind is in (h.0, h.1, h.2, inr (h.3 ∙ e))
 
-    go : (xs : List NumberedToken) → tokens_from tokens at ≡ xs → BeginsWithName xs → (token : Token) × (at < length tokens) × (tokens_from tokens at ≡ (at, token) ∷ tokens_from tokens (at + 1)) × IsName (at, token)
+    go : (xs : List NumberedToken) → tokens_from tokens at ≡ xs → BeginsWithName xs → (token : Token) × (at < length tokens) × (tokens_from tokens at ≡ (at, token) ∷ tokens_from tokens (at + 1))
+        × IsName (at, token)
     go [] e is = elim is [ ]
     go (x ∷ xs) e (inl is) = from_kind Ident refl (subst (BeginsWithKind Ident) (sym e) is)
     go (x ∷ xs) e (inr is) = from_kind' Dotted refl (subst (BeginsWithKind Dotted) (sym e) is)
@@ -88,12 +91,14 @@ pub reason_simp : (tokens : List Token) (at : ℕ) (e : Expected) → BeginsWith
     verdict (next reason e) (tokens_from tokens at) ≡ verdict (next (token LeftParenthesis) (next signed (next (tail signed_left) (next (token RightParenthesis) e)))) (tokens_from tokens (at + 1))
 reason_simp tokens at e begins =
     let h = token_there tokens at WordSimp begins in
-    ap (verdict (next reason e)) h.2 ∙ symbol-takes reason (token LeftParenthesis ∷ signed ∷ tail signed_left ∷ token RightParenthesis ∷ []) e (at, h.0) (tokens_from tokens (at + 1)) (ap (answer reason) h.3)
+    ap (verdict (next reason e)) h.2
+        ∙ symbol-takes reason (token LeftParenthesis ∷ signed ∷ tail signed_left ∷ token RightParenthesis ∷ []) e (at, h.0) (tokens_from tokens (at + 1)) (ap (answer reason) h.3)
 
 pub is_plain : (xs : List NumberedToken) → BeginsWith IsReason xs xs Plain
 is_plain xs = record { front = []; joined = refl; is = none }
 
-pub is_rule_reason : (tokens : List Token) (at end : ℕ) (tree : SignedAst) → BeginsWithKind WordBy (tokens_from tokens at) → BeginsWith IsSigned (tokens_from tokens (at + 1)) (tokens_from tokens end) tree →
+pub is_rule_reason : (tokens : List Token) (at end : ℕ) (tree : SignedAst) → BeginsWithKind WordBy (tokens_from tokens at)
+    → BeginsWith IsSigned (tokens_from tokens (at + 1)) (tokens_from tokens end) tree →
     BeginsWith IsReason (tokens_from tokens at) (tokens_from tokens end) (Rule tree)
 is_rule_reason tokens at end tree begins is =
     let h = token_there tokens at WordBy begins in
@@ -129,7 +134,8 @@ is_simp_reason tokens at end trees by simp' open' are close =
 
 -- what is expected behind `by simp`
 pub simp_expects : (tokens : List Token) (at : ℕ) (e : Expected) → BeginsWithKind WordBy (tokens_from tokens at) → BeginsWithKind WordSimp (tokens_from tokens (at + 1)) →
-    verdict (next (tail reason_left) e) (tokens_from tokens at) ≡ verdict (next (token LeftParenthesis) (next signed (next (tail signed_left) (next (token RightParenthesis) e)))) (tokens_from tokens (at + 2))
+    verdict (next (tail reason_left) e) (tokens_from tokens at)
+        ≡ verdict (next (token LeftParenthesis) (next signed (next (tail signed_left) (next (token RightParenthesis) e)))) (tokens_from tokens (at + 2))
 simp_expects tokens at e by simp' =
     tail_passes tokens at reason_left e by ∙ reason_simp tokens (at + 1) e simp'
     ∙ ap (verdict (next (token LeftParenthesis) (next signed (next (tail signed_left) (next (token RightParenthesis) e))))) (from-two tokens at)
@@ -144,7 +150,8 @@ simp_opened tokens at e by simp' open' =
 
 -- ---- atoms
 
-pub atom_one : (tokens : List Token) (at depth : ℕ) (x : NumberedToken) → tokens_from tokens at ≡ x ∷ tokens_from tokens (at + 1) → answer (atom depth) (kind_of x) ≡ takes [] → Passes (next (atom depth)) tokens at (at + 1)
+pub atom_one : (tokens : List Token) (at depth : ℕ) (x : NumberedToken) → tokens_from tokens at ≡ x ∷ tokens_from tokens (at + 1) → answer (atom depth) (kind_of x) ≡ takes []
+    → Passes (next (atom depth)) tokens at (at + 1)
 atom_one tokens at depth x here is e = ap (verdict (next (atom depth) e)) here ∙ symbol-takes (atom depth) [] e x (tokens_from tokens (at + 1)) is
 
 -- ---- goals
@@ -163,7 +170,8 @@ pub goal_term : (xs : List NumberedToken) → (BeginsWithKind QuestionMark xs �
 unfolding verdict
 goal_term [] f = refl
 goal_term (x ∷ xs) f =
-    ap (λ b. go_on (if b then Some (next (tail reason_left) nothing) else proceed (answer (atom most_nested) (kind_of x)) None goal_more) (λ e'. verdict e' xs) (stopped (x ∷ xs))) (same-other (kind_of x) QuestionMark f)
+    ap (λ b. go_on (if b then Some (next (tail reason_left) nothing) else proceed (answer (atom most_nested) (kind_of x)) None goal_more) (λ e'. verdict e' xs) (stopped (x ∷ xs)))
+        (same-other (kind_of x) QuestionMark f)
     ∙ ap (λ o. go_on o (λ e'. verdict e' xs) (stopped (x ∷ xs))) (atom-decides most_nested (kind_of x) (step goal_more (kind_of x)) goal_more)
 
 -- ---- the end

@@ -61,11 +61,13 @@ module _ (item : Expected → Expected) (t : Tail) (loops : (e : Expected) → o
   abbrev pub items : Expected → Expected
   items e = item (next (tail t) e)
 
-  pub again_more : (tokens : List Token) (start at end : ℕ) → Again items tokens start at → Passes item tokens at end → BeginsWithKind (opener t) (tokens_from tokens end) → Again items tokens start (end + 1)
+  pub again_more : (tokens : List Token) (start at end : ℕ) → Again items tokens start at → Passes item tokens at end → BeginsWithKind (opener t) (tokens_from tokens end)
+      → Again items tokens start (end + 1)
   again_more tokens start at end again passes begins e =
       again e ∙ passes (next (tail t) e) ∙ tail_passes tokens end t e begins ∙ ap (λ e'. verdict e' (tokens_from tokens (end + 1))) (loops e)
 
-  pub again_last : (tokens : List Token) (start at end : ℕ) → Again items tokens start at → Passes item tokens at end → (BeginsWithKind (opener t) (tokens_from tokens end) → ⊥) → Passes items tokens start end
+  pub again_last : (tokens : List Token) (start at end : ℕ) → Again items tokens start at → Passes item tokens at end → (BeginsWithKind (opener t) (tokens_from tokens end) → ⊥)
+      → Passes items tokens start end
   again_last tokens start at end again passes ended e = again e ∙ passes (next (tail t) e) ∙ tail_skips t e (tokens_from tokens end) ended
 
   pub again_stops : (tokens : List Token) (start at k : ℕ) → Again items tokens start at → Stops item tokens at k → Stops items tokens start k

@@ -100,7 +100,8 @@ unfolding verdict
 split-step x xs before [] e is = record { front = []; back = x ∷ xs; joined = refl; front_is = verdict-done nothing refl; back_is = is }
 split-step x xs before (s ∷ ss) e is = go (λ at. split-step x xs before ss e at) (answer s (kind_of x)) refl is
   where
-    go : (verdict (onto ss e) (x ∷ xs) ≡ accepted → Split ss e (x ∷ xs)) → (a : Answer) → answer s (kind_of x) ≡ a → go_on (proceed a (step (onto ss e) (kind_of x)) (onto ss e)) (λ e'. verdict e' xs) (stopped (x ∷ xs)) ≡ accepted → Split (s ∷ ss) e (x ∷ xs)
+    go : (verdict (onto ss e) (x ∷ xs) ≡ accepted → Split ss e (x ∷ xs)) → (a : Answer) → answer s (kind_of x) ≡ a
+        → go_on (proceed a (step (onto ss e) (kind_of x)) (onto ss e)) (λ e'. verdict e' xs) (stopped (x ∷ xs)) ≡ accepted → Split (s ∷ ss) e (x ∷ xs)
     go passed (takes rs) here at =
         let h = before (rs ++ ss) e (ap (λ e'. verdict e' xs) (onto-append rs ss e) ∙ at) in
         record {

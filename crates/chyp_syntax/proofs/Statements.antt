@@ -61,7 +61,8 @@ gen_there tokens dom cod word name colon in' arrow out ended =
     )
     )
 
-pub let_there : (tokens : List Token) (end : ℕ) (tree : TermTree) → BeginsWithKind WordLet (tokens_from tokens 0) → BeginsWithKind Ident (tokens_from tokens 1) → BeginsWithKind Equals (tokens_from tokens 2) →
+pub let_there : (tokens : List Token) (end : ℕ) (tree : TermTree) → BeginsWithKind WordLet (tokens_from tokens 0) → BeginsWithKind Ident (tokens_from tokens 1)
+    → BeginsWithKind Equals (tokens_from tokens 2) →
     BeginsWith (IsTerm most_nested) (tokens_from tokens 3) (tokens_from tokens end) tree → tokens_from tokens end ≡ [] → IsStatement (tokens_from tokens 0) (definition 1 tree)
 let_there tokens end tree word name equals term ended =
     let h0 = token_there tokens 0 WordLet word in
@@ -74,7 +75,8 @@ let_there tokens end tree word name equals term ended =
     subst (λ ys. IsStatement ys (definition 1 tree)) (sym all)
     (is_let {word = x0} {name = x1} {equals = x2} h0.3 h1.3 h2.3 (to_end (IsTerm most_nested) (tokens_from tokens 3) (tokens_from tokens end) tree term ended))
 
-pub rule_there : (tokens : List Token) (middle end : ℕ) (first second : TermTree) → BeginsWithKind WordRule (tokens_from tokens 0) → BeginsWithKind Ident (tokens_from tokens 1) → BeginsWithKind Colon (tokens_from tokens 2) →
+pub rule_there : (tokens : List Token) (middle end : ℕ) (first second : TermTree) → BeginsWithKind WordRule (tokens_from tokens 0) → BeginsWithKind Ident (tokens_from tokens 1)
+    → BeginsWithKind Colon (tokens_from tokens 2) →
     BeginsWith (IsTerm most_nested) (tokens_from tokens 3) (tokens_from tokens middle) first → BeginsWithKind Equals (tokens_from tokens middle) →
     BeginsWith (IsTerm most_nested) (tokens_from tokens (middle + 1)) (tokens_from tokens end) second → tokens_from tokens end ≡ [] → IsStatement (tokens_from tokens 0) (rule 1 first middle second)
 rule_there tokens middle end first second word name colon left equals right ended =
@@ -91,7 +93,8 @@ rule_there tokens middle end first second word name colon left equals right ende
     subst (λ ys. IsStatement ys (rule 1 first middle second)) (sym all)
     (is_rule {word = x0} {name = x1} {colon = x2} x3 h0.3 h1.3 h2.3 left.is h3.3 (to_end (IsTerm most_nested) (tokens_from tokens (middle + 1)) (tokens_from tokens end) second right ended))
 
-pub rewrite_there : (tokens : List Token) (end : ℕ) (first : TermTree) (trees : List StepTree) → BeginsWithKind WordRewrite (tokens_from tokens 0) → BeginsWithKind Ident (tokens_from tokens 1) → BeginsWithKind Colon (tokens_from tokens 2) →
+pub rewrite_there : (tokens : List Token) (end : ℕ) (first : TermTree) (trees : List StepTree) → BeginsWithKind WordRewrite (tokens_from tokens 0) → BeginsWithKind Ident (tokens_from tokens 1)
+    → BeginsWithKind Colon (tokens_from tokens 2) →
     BeginsWith (IsTerm most_nested) (tokens_from tokens 3) (tokens_from tokens end) first → AreSteps (tokens_from tokens end) trees → IsStatement (tokens_from tokens 0) (rewrite 1 first trees)
 rewrite_there tokens end first trees word name colon term are =
     let h0 = token_there tokens 0 WordRewrite word in
@@ -103,7 +106,8 @@ rewrite_there tokens end first trees word name colon term are =
     let all : tokens_from tokens 0 ≡ x0 ∷ x1 ∷ x2 ∷ (term.front ++ tokens_from tokens end) = h0.2 ∙ ap (λ ys. x0 ∷ ys) (h1.2 ∙ ap (λ ys. x1 ∷ ys) (h2.2 ∙ ap (λ ys. x2 ∷ ys) term.joined)) in
     subst (λ ys. IsStatement ys (rewrite 1 first trees)) (sym all) (is_rewrite {word = x0} {name = x1} {colon = x2} h0.3 h1.3 h2.3 term.is are)
 
-pub import_there : (tokens : List Token) → BeginsWithKind WordImport (tokens_from tokens 0) → BeginsWithKind Ident (tokens_from tokens 1) → tokens_from tokens 2 ≡ [] → IsStatement (tokens_from tokens 0) (inclusion 1 None)
+pub import_there : (tokens : List Token) → BeginsWithKind WordImport (tokens_from tokens 0) → BeginsWithKind Ident (tokens_from tokens 1) → tokens_from tokens 2 ≡ []
+    → IsStatement (tokens_from tokens 0) (inclusion 1 None)
 import_there tokens word name ended =
     let h0 = token_there tokens 0 WordImport word in
     let h1 = token_there tokens 1 Ident name in
@@ -112,7 +116,8 @@ import_there tokens word name ended =
     let all : tokens_from tokens 0 ≡ x0 ∷ x1 ∷ [] = h0.2 ∙ ap (λ ys. x0 ∷ ys) (h1.2 ∙ ap (λ ys. x1 ∷ ys) ended) in
     subst (λ ys. IsStatement ys (inclusion 1 None)) (sym all) (is_import {word = x0} {name = x1} h0.3 h1.3)
 
-pub import_as_there : (tokens : List Token) → BeginsWithKind WordImport (tokens_from tokens 0) → BeginsWithKind Ident (tokens_from tokens 1) → BeginsWithKind WordAs (tokens_from tokens 2) → BeginsWithKind Ident (tokens_from tokens 3) →
+pub import_as_there : (tokens : List Token) → BeginsWithKind WordImport (tokens_from tokens 0) → BeginsWithKind Ident (tokens_from tokens 1) → BeginsWithKind WordAs (tokens_from tokens 2)
+    → BeginsWithKind Ident (tokens_from tokens 3) →
     tokens_from tokens 4 ≡ [] → IsStatement (tokens_from tokens 0) (inclusion 1 (Some 3))
 import_as_there tokens word name as' prefix ended =
     let h0 = token_there tokens 0 WordImport word in
@@ -126,7 +131,8 @@ import_as_there tokens word name as' prefix ended =
     let all : tokens_from tokens 0 ≡ x0 ∷ x1 ∷ x2 ∷ x3 ∷ [] = h0.2 ∙ ap (λ ys. x0 ∷ ys) (h1.2 ∙ ap (λ ys. x1 ∷ ys) (h2.2 ∙ ap (λ ys. x2 ∷ ys) (h3.2 ∙ ap (λ ys. x3 ∷ ys) ended))) in
     subst (λ ys. IsStatement ys (inclusion 1 (Some 3))) (sym all) (is_import_as {word = x0} {name = x1} {as' = x2} {prefix = x3} h0.3 h1.3 h2.3 h3.3)
 
-pub show_there : (tokens : List Token) → BeginsWithKind WordShow (tokens_from tokens 0) → BeginsWithName (tokens_from tokens 1) → tokens_from tokens 2 ≡ [] → IsStatement (tokens_from tokens 0) (showing 1)
+pub show_there : (tokens : List Token) → BeginsWithKind WordShow (tokens_from tokens 0) → BeginsWithName (tokens_from tokens 1) → tokens_from tokens 2 ≡ []
+    → IsStatement (tokens_from tokens 0) (showing 1)
 show_there tokens word name ended =
     let h0 = token_there tokens 0 WordShow word in
     let h1 = name_there tokens 1 name in

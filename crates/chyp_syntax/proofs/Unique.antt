@@ -71,7 +71,8 @@ SwapReading x ys t s =
     ⊎ ((y : NumberedToken) × (z : NumberedToken) × (places : List NumberedToken) × (values : List ℕ) ×
     (ys ≡ y ∷ (places ++ z ∷ s)) × (kind_of y ≡ LeftBracket) × AreNumbers places values × (kind_of z ≡ RightBracket) × (t ≡ swap x.0 (Some values)))
 
-swap-reading : {xs : List NumberedToken} {t : TermTree} → IsSwap xs t → (s ys : List NumberedToken) (x : NumberedToken) → Not LeftBracket s → xs ++ s ≡ x ∷ ys → (kind_of x ≡ WordSw) × SwapReading x ys t s
+swap-reading : {xs : List NumberedToken} {t : TermTree} → IsSwap xs t → (s ys : List NumberedToken) (x : NumberedToken) → Not LeftBracket s → xs ++ s ≡ x ∷ ys → (kind_of x ≡ WordSw)
+    × SwapReading x ys t s
 swap-reading (two_places {word = w} is) s ys x ended e =
     let h = heads w x s ys e in
     (ap kind_of (sym h.0) ∙ is, inl (subst (Not LeftBracket) h.1 ended, ap (λ (v : NumberedToken). swap v.0 None) h.0, h.1))
@@ -108,7 +109,8 @@ AtomReading _ depth x ys t s = ⊥
 kinded : (k j : TokenKind) (depth : ℕ) (x : NumberedToken) (ys : List NumberedToken) (t : TermTree) (s : List NumberedToken) → j ≡ k → AtomReading k depth x ys t s → AtomReading j depth x ys t s
 kinded k j depth x ys t s e r = subst (λ i. AtomReading i depth x ys t s) (sym e) r
 
-atom-reading : {depth : ℕ} {xs : List NumberedToken} {t : TermTree} → IsAtom depth xs t → (s ys : List NumberedToken) (x : NumberedToken) → Not LeftBracket s → xs ++ s ≡ x ∷ ys → AtomReading (kind_of x) depth x ys t s
+atom-reading : {depth : ℕ} {xs : List NumberedToken} {t : TermTree} → IsAtom depth xs t → (s ys : List NumberedToken) (x : NumberedToken) → Not LeftBracket s → xs ++ s ≡ x ∷ ys
+    → AtomReading (kind_of x) depth x ys t s
 atom-reading (a_name {depth} {word = w} (inl is)) s ys x ended e =
     let h = heads w x s ys e in
     kinded Ident (kind_of x) depth x ys (named w.0) s (ap kind_of (sym h.0) ∙ is) (ap (λ (v : NumberedToken). named v.0) h.0, h.1)
@@ -159,7 +161,8 @@ atom-some (a_swap (two_places {word = w} is)) s = (w, s, refl)
 atom-some (a_swap (these_places {word = w} {open' = y} z {places = ps} is o are c)) s = (w, y ∷ ((ps ++ z ∷ []) ++ s), refl)
 atom-some (in_parentheses {open' = w} z {inner = zs} o is c) s = (w, (zs ++ z ∷ []) ++ s, refl)
 
-atom-one-way : (depth : ℕ) → ((d : ℕ) → depth ≡ suc d → TermOneWay d) → (a b r s : List NumberedToken) (t u : TermTree) → IsAtom depth a t → IsAtom depth b u → Not LeftBracket r → Not LeftBracket s → a ++ r ≡ b ++ s → (t ≡ u) × (r ≡ s)
+atom-one-way : (depth : ℕ) → ((d : ℕ) → depth ≡ suc d → TermOneWay d) → (a b r s : List NumberedToken) (t u : TermTree) → IsAtom depth a t → IsAtom depth b u → Not LeftBracket r → Not LeftBracket s
+    → a ++ r ≡ b ++ s → (t ≡ u) × (r ≡ s)
 atom-one-way depth inner a b r s t u is is' er es e =
     let w = atom-some is r in
     atom-same (kind_of w.0) depth inner w.0 w.1 t u r s (atom-reading is r w.1 w.0 er w.2) (atom-reading is' s w.1 w.0 es (sym e ∙ w.2))
@@ -177,7 +180,8 @@ pars-parts (more_pars x is k are) = more_parts x is k (pars-parts are)
 abbrev ParEnds : List NumberedToken → Type 0
 ParEnds xs = Not LeftBracket xs × Not Star xs
 
-par-one-way : (depth : ℕ) → ((d : ℕ) → depth ≡ suc d → TermOneWay d) → (a b r s : List NumberedToken) (t u : TermTree) → IsPar depth a t → IsPar depth b u → ParEnds r → ParEnds s → a ++ r ≡ b ++ s → (t ≡ u) × (r ≡ s)
+par-one-way : (depth : ℕ) → ((d : ℕ) → depth ≡ suc d → TermOneWay d) → (a b r s : List NumberedToken) (t u : TermTree) → IsPar depth a t → IsPar depth b u → ParEnds r → ParEnds s → a ++ r ≡ b ++ s
+    → (t ≡ u) × (r ≡ s)
 par-one-way depth inner a b r s _ _ (tensor {trees = ts} are) (tensor {trees = us} are') er es e =
     let p = atoms-parts are in
     let q = atoms-parts are' in

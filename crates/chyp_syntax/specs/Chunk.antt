@@ -29,4 +29,5 @@ pub record AreChunks (tokens : List Token) (chunks : List Chunk) : Type 0 where
 
 -- each list of tokens has exactly one list of chunks
 abbrev pub HasOneListOfChunks : List Token → Type 0
-HasOneListOfChunks tokens = (chunks : List Chunk) × AreChunks tokens chunks × ((others : List Chunk) → AreChunks tokens others → others ≡ chunks)
+HasOneListOfChunks tokens = (chunks : List Chunk) × AreChunks tokens chunks
+    × ((others : List Chunk) → AreChunks tokens others → others ≡ chunks)

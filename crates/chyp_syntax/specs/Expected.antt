@@ -134,7 +134,8 @@ proceed refuses else' e = None
 abbrev pub start : TokenKind → Option Expected
 start WordGen = Some (next (token Ident) (next (token Colon) (next (token Number) (next (token Arrow) (next (token Number) nothing)))))
 start WordLet = Some (next (token Ident) (next (token Equals) (term_then most_nested nothing)))
-start WordRule = Some (next (token Ident) (next (token Colon) (term_then most_nested (next (token Equals) (term_then most_nested nothing)))))
+start WordRule = Some (next (token Ident)
+    (next (token Colon) (term_then most_nested (next (token Equals) (term_then most_nested nothing)))))
 start WordRewrite = Some (next (token Ident) (next (token Colon) (term_then most_nested steps)))
 start WordImport = Some (next (token Ident) (next (tail prefix_left) nothing))
 start WordShow = Some (next name nothing)
@@ -145,7 +146,8 @@ abbrev pub step : Expected → TokenKind → Option Expected
 step nothing k = None
 step statement k = start k
 step steps k = if same_kind k Equals then Some goal else None
-step goal k = if same_kind k QuestionMark then Some (next (tail reason_left) nothing) else proceed (answer (atom most_nested) k) None goal_more
+step goal k = if same_kind k QuestionMark then Some (next (tail reason_left) nothing)
+    else proceed (answer (atom most_nested) k) None goal_more
 step (next s e) k = proceed (answer s k) (step e k) e
 
 -- the symbol may be left out

@@ -47,7 +47,8 @@ end_of token = token.start + token.len
 
 -- where the token of this number begins, or behind the last token where there is none of it
 abbrev pub token_start : List Token → ℕ → ℕ
-token_start statement number = option_map_or (λ token. token.start) (slice_get statement number) (option_map_or end_of (slice_get statement (length statement - 1)) 0)
+token_start statement number =
+    option_map_or (λ token. token.start) (slice_get statement number) (option_map_or end_of (slice_get statement (length statement - 1)) 0)
 
 -- the bytes of the token of this number, none where the statement has no such token
 abbrev pub text_at : List ℕ → List Token → ℕ → List ℕ
@@ -62,4 +63,5 @@ kind_text (keyword ∷ rest) = unwrap_or (keyword_of keyword.kind) (codes "stray
 abbrev pub shown_name : List ℕ → List Token → Option (List ℕ)
 shown_name text [] = None
 shown_name text (keyword ∷ []) = None
-shown_name text (keyword ∷ name ∷ rest) = if is_some (keyword_of keyword.kind) && is_name name.kind then Some (token_text text name) else None
+shown_name text (keyword ∷ name ∷ rest) =
+    if is_some (keyword_of keyword.kind) && is_name name.kind then Some (token_text text name) else None

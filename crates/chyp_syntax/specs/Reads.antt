@@ -12,11 +12,13 @@ pub record BeginsWith {A : Type 0} (Is : List NumberedToken → A → Type 0) (t
 
 -- the tokens from `start` to `end` are what `symbols` expects first
 abbrev pub Passes : (Expected → Expected) → List Token → ℕ → ℕ → Type 0
-Passes symbols tokens start end = (behind : Expected) → verdict (symbols behind) (tokens_from tokens start) ≡ verdict behind (tokens_from tokens end)
+Passes symbols tokens start end = (behind : Expected)
+    → verdict (symbols behind) (tokens_from tokens start) ≡ verdict behind (tokens_from tokens end)
 
 -- the tokens from `start` on are not what `symbols` expects, and the token `k` is the first that can't be
 abbrev pub Stops : (Expected → Expected) → List Token → ℕ → ℕ → Type 0
-Stops symbols tokens start k = (k ≤ length tokens) × ((behind : Expected) → verdict (symbols behind) (tokens_from tokens start) ≡ stopped (tokens_from tokens k))
+Stops symbols tokens start k = (k ≤ length tokens)
+    × ((behind : Expected) → verdict (symbols behind) (tokens_from tokens start) ≡ stopped (tokens_from tokens k))
 
 -- the same where all that is expected is told
 abbrev pub StopsAt : Expected → List Token → ℕ → ℕ → Type 0

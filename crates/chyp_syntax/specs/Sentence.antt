@@ -14,7 +14,8 @@ use Rattle.chyp_syntax.specs.Term.{TermTree, named, wire, empty, swap, chain_of,
 pub data AreNumbers : List NumberedToken → List ℕ → Type 0 where
   one_number : {number : NumberedToken} → kind_of number ≡ Number → AreNumbers (number ∷ []) (value_of number ∷ [])
   more_numbers : {number comma : NumberedToken} {rest : List NumberedToken} {values : List ℕ} →
-      kind_of number ≡ Number → kind_of comma ≡ Comma → AreNumbers rest values → AreNumbers (number ∷ comma ∷ rest) (value_of number ∷ values)
+      kind_of number ≡ Number → kind_of comma ≡ Comma → AreNumbers rest values
+          → AreNumbers (number ∷ comma ∷ rest) (value_of number ∷ values)
 
 -- "sw" [ "[" Number { "," Number } "]" ]
 pub data IsSwap : List NumberedToken → TermTree → Type 0 where
@@ -31,7 +32,8 @@ mutual
     an_id0 : {depth : ℕ} {word : NumberedToken} → kind_of word ≡ WordId0 → IsAtom depth (word ∷ []) empty
     a_swap : {depth : ℕ} {tokens : List NumberedToken} {tree : TermTree} → IsSwap tokens tree → IsAtom depth tokens tree
     in_parentheses : {depth : ℕ} {open' : NumberedToken} (close : NumberedToken) {inner : List NumberedToken} {tree : TermTree} →
-        kind_of open' ≡ LeftParenthesis → IsTerm depth inner tree → kind_of close ≡ RightParenthesis → IsAtom (suc depth) (open' ∷ (inner ++ close ∷ [])) tree
+        kind_of open' ≡ LeftParenthesis → IsTerm depth inner tree → kind_of close ≡ RightParenthesis
+            → IsAtom (suc depth) (open' ∷ (inner ++ close ∷ [])) tree
 
   -- atom { "*" atom }, with the trees of its parts
   pub data AreAtoms : (depth : ℕ) → List NumberedToken → List TermTree → Type 0 where
@@ -41,22 +43,26 @@ mutual
 
   -- par := atom { "*" atom }
   pub data IsPar : (depth : ℕ) → List NumberedToken → TermTree → Type 0 where
-    tensor : {depth : ℕ} {tokens : List NumberedToken} {trees : List TermTree} → AreAtoms depth tokens trees → IsPar depth tokens (tensor_of trees)
+    tensor : {depth : ℕ} {tokens : List NumberedToken} {trees : List TermTree} → AreAtoms depth tokens trees
+        → IsPar depth tokens (tensor_of trees)
 
   -- par { ";" par }, with the trees of its parts and the numbers of the `;`
   pub data ArePars : (depth : ℕ) → List NumberedToken → List TermTree → List ℕ → Type 0 where
     one_par : {depth : ℕ} {par : List NumberedToken} {tree : TermTree} → IsPar depth par tree → ArePars depth par (tree ∷ []) []
-    more_pars : {depth : ℕ} {par rest : List NumberedToken} (semi : NumberedToken) {tree : TermTree} {trees : List TermTree} {semis : List ℕ} →
-        IsPar depth par tree → kind_of semi ≡ Semicolon → ArePars depth rest trees semis → ArePars depth (par ++ semi ∷ rest) (tree ∷ trees) (semi.0 ∷ semis)
+    more_pars : {depth : ℕ} {par rest : List NumberedToken} (semi : NumberedToken)
+        {tree : TermTree} {trees : List TermTree} {semis : List ℕ} → IsPar depth par tree → kind_of semi ≡ Semicolon
+        → ArePars depth rest trees semis → ArePars depth (par ++ semi ∷ rest) (tree ∷ trees) (semi.0 ∷ semis)
 
   -- term := par { ";" par }
   pub data IsTerm : (depth : ℕ) → List NumberedToken → TermTree → Type 0 where
-    composite : {depth : ℕ} {tokens : List NumberedToken} {trees : List TermTree} {semis : List ℕ} → ArePars depth tokens trees semis → IsTerm depth tokens (chain_of trees semis)
+    composite : {depth : ℕ} {tokens : List NumberedToken} {trees : List TermTree} {semis : List ℕ} → ArePars depth tokens trees semis
+        → IsTerm depth tokens (chain_of trees semis)
 
 -- signed := [ "-" ] name
 pub data IsSigned : List NumberedToken → SignedAst → Type 0 where
   forwards : {word : NumberedToken} → IsName word → IsSigned (word ∷ []) (record { minus = false; name = word.0 })
-  backwards : {minus word : NumberedToken} → kind_of minus ≡ Minus → IsName word → IsSigned (minus ∷ word ∷ []) (record { minus = true; name = word.0 })
+  backwards : {minus word : NumberedToken} → kind_of minus ≡ Minus → IsName word
+      → IsSigned (minus ∷ word ∷ []) (record { minus = true; name = word.0 })
 
 -- signed { "," signed }
 pub data AreSigned : List NumberedToken → List SignedAst → Type 0 where
@@ -67,9 +73,11 @@ pub data AreSigned : List NumberedToken → List SignedAst → Type 0 where
 -- [ by ], where by := "by" signed | "by" "simp" "(" signed { "," signed } ")"
 pub data IsReason : List NumberedToken → ReasonAst → Type 0 where
   none : IsReason [] Plain
-  by_rule : {word : NumberedToken} {tokens : List NumberedToken} {tree : SignedAst} → kind_of word ≡ WordBy → IsSigned tokens tree → IsReason (word ∷ tokens) (Rule tree)
+  by_rule : {word : NumberedToken} {tokens : List NumberedToken} {tree : SignedAst} → kind_of word ≡ WordBy → IsSigned tokens tree
+      → IsReason (word ∷ tokens) (Rule tree)
   by_simp : {word simp' open' : NumberedToken} (close : NumberedToken) {tokens : List NumberedToken} {trees : List SignedAst} →
-      kind_of word ≡ WordBy → kind_of simp' ≡ WordSimp → kind_of open' ≡ LeftParenthesis → AreSigned tokens trees → kind_of close ≡ RightParenthesis →
+      kind_of word ≡ WordBy → kind_of simp' ≡ WordSimp → kind_of open' ≡ LeftParenthesis → AreSigned tokens trees
+          → kind_of close ≡ RightParenthesis →
       IsReason (word ∷ simp' ∷ open' ∷ (tokens ++ close ∷ [])) (Simp trees)
 
 -- the parentheses of a sentence's terms nest at most this deep
@@ -92,13 +100,15 @@ pub data IsHole : List NumberedToken → StepTree → Type 0 where
 pub data AreSteps : List NumberedToken → List StepTree → Type 0 where
   no_step : AreSteps [] []
   last_hole : {tokens : List NumberedToken} {tree : StepTree} → IsHole tokens tree → AreSteps tokens (tree ∷ [])
-  more_steps : {tokens rest : List NumberedToken} {tree : StepTree} {trees : List StepTree} → IsStep tokens tree → AreSteps rest trees → AreSteps (tokens ++ rest) (tree ∷ trees)
+  more_steps : {tokens rest : List NumberedToken} {tree : StepTree} {trees : List StepTree} → IsStep tokens tree → AreSteps rest trees
+      → AreSteps (tokens ++ rest) (tree ∷ trees)
 
 -- the lines of the grammar of a chunk
 pub data IsStatement : List NumberedToken → StatementTree → Type 0 where
   -- "gen" Ident ":" Number "->" Number
   is_gen : {word name colon dom arrow cod : NumberedToken} →
-      kind_of word ≡ WordGen → kind_of name ≡ Ident → kind_of colon ≡ Colon → kind_of dom ≡ Number → kind_of arrow ≡ Arrow → kind_of cod ≡ Number →
+      kind_of word ≡ WordGen → kind_of name ≡ Ident → kind_of colon ≡ Colon → kind_of dom ≡ Number → kind_of arrow ≡ Arrow
+          → kind_of cod ≡ Number →
       IsStatement (word ∷ name ∷ colon ∷ dom ∷ arrow ∷ cod ∷ []) (generator name.0 (value_of dom) (value_of cod))
   -- "let" Ident "=" term
   is_let : {word name equals : NumberedToken} {term : List NumberedToken} {tree : TermTree} →
@@ -106,17 +116,20 @@ pub data IsStatement : List NumberedToken → StatementTree → Type 0 where
       IsStatement (word ∷ name ∷ equals ∷ term) (definition name.0 tree)
   -- "rule" Ident ":" term "=" term
   is_rule : {word name colon : NumberedToken} (equals : NumberedToken) {left right : List NumberedToken} {first second : TermTree} →
-      kind_of word ≡ WordRule → kind_of name ≡ Ident → kind_of colon ≡ Colon → IsTerm most_nested left first → kind_of equals ≡ Equals → IsTerm most_nested right second →
+      kind_of word ≡ WordRule → kind_of name ≡ Ident → kind_of colon ≡ Colon → IsTerm most_nested left first → kind_of equals ≡ Equals
+          → IsTerm most_nested right second →
       IsStatement (word ∷ name ∷ colon ∷ (left ++ equals ∷ right)) (rule name.0 first equals.0 second)
   -- "rewrite" Ident ":" term { "=" term [by] } [ "=" "?" [by] ]
   is_rewrite : {word name colon : NumberedToken} {term rest : List NumberedToken} {first : TermTree} {steps : List StepTree} →
       kind_of word ≡ WordRewrite → kind_of name ≡ Ident → kind_of colon ≡ Colon → IsTerm most_nested term first → AreSteps rest steps →
       IsStatement (word ∷ name ∷ colon ∷ (term ++ rest)) (rewrite name.0 first steps)
   -- "import" Ident
-  is_import : {word name : NumberedToken} → kind_of word ≡ WordImport → kind_of name ≡ Ident → IsStatement (word ∷ name ∷ []) (inclusion name.0 None)
+  is_import : {word name : NumberedToken} → kind_of word ≡ WordImport → kind_of name ≡ Ident
+      → IsStatement (word ∷ name ∷ []) (inclusion name.0 None)
   -- "import" Ident "as" Ident
   is_import_as : {word name as' prefix : NumberedToken} →
-      kind_of word ≡ WordImport → kind_of name ≡ Ident → kind_of as' ≡ WordAs → kind_of prefix ≡ Ident → IsStatement (word ∷ name ∷ as' ∷ prefix ∷ []) (inclusion name.0 (Some prefix.0))
+      kind_of word ≡ WordImport → kind_of name ≡ Ident → kind_of as' ≡ WordAs → kind_of prefix ≡ Ident
+          → IsStatement (word ∷ name ∷ as' ∷ prefix ∷ []) (inclusion name.0 (Some prefix.0))
   -- "show" name
   is_show : {word name : NumberedToken} → kind_of word ≡ WordShow → IsName name → IsStatement (word ∷ name ∷ []) (showing name.0)
 

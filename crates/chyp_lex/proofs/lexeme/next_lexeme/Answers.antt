@@ -15,9 +15,11 @@ pub returns-in-Some-clause-next : goal.returns-in-Some-clause-next
 returns-in-Some-clause-next c = rw c.token.ensures (next-is_symbol c.args.text.now (c.in-Some.len, c.in-Some.kind) c.requires (sym c.symbol.ensures ∙ c.in-Some.is))
 
 pub returns-in-Some-clause-value : goal.returns-in-Some-clause-value
-returns-in-Some-clause-value c = rw c.token.ensures (sym (symbol_of-value c.args.text.now (c.in-Some.len, c.in-Some.kind) (take c.in-Some.len c.args.text.now) c.requires (sym c.symbol.ensures ∙ c.in-Some.is)))
+returns-in-Some-clause-value c =
+    rw c.token.ensures (sym (symbol_of-value c.args.text.now (c.in-Some.len, c.in-Some.kind) (take c.in-Some.len c.args.text.now) c.requires (sym c.symbol.ensures ∙ c.in-Some.is)))
 
 pub returns-in_default-clause-next : goal.returns-in_default-clause-next
 returns-in_default-clause-next c =
-    next-is_other c.args.text.now (sym c.is_blank.ensures ∙ c.if-is_blank.false) c.if-first-eq35.false (sym c.is_ascii_digit.ensures.value ∙ c.if-is_ascii_digit.false) (sym c.symbol.ensures ∙ c.in_default.is)
+    next-is_other c.args.text.now (sym c.is_blank.ensures ∙ c.if-is_blank.false) c.if-first-eq35.false (sym c.is_ascii_digit.ensures.value ∙ c.if-is_ascii_digit.false) (sym c.symbol.ensures
+        ∙ c.in_default.is)
     ∙ c.name_or_bad.ensures.next

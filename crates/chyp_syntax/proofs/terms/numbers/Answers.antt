@@ -37,6 +37,7 @@ loop-values-preserved c =
     let within = within_kind tokens (at + 1) Comma comma in
     record {
       within = (omega arith, omega arith);
-      so_far = rw (c.in_ok-push.ensures.ok) (subst (λ n. SoFar (λ xs ts _. AreNumbers xs ts) (tokens_from tokens start) (tokens_from tokens n) (c.loop-values.values ++ c.in_ok-value.value ∷ []) []) two more);
+      so_far = rw (c.in_ok-push.ensures.ok)
+          (subst (λ n. SoFar (λ xs ts _. AreNumbers xs ts) (tokens_from tokens start) (tokens_from tokens n) (c.loop-values.values ++ c.in_ok-value.value ∷ []) []) two more);
       again = subst (λ n. Again (λ e. next (token Number) (next (tail numbers_left) e)) tokens start n) two again;
     }
