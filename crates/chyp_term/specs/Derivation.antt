@@ -17,7 +17,10 @@ empty = permutation [] []
 abbrev pub swap : List Sort → List Sort → Morphism
 swap a b = permutation (a ++ b) (swapped (length a) (length b))
 
--- the nine monoidal laws, of which the one on the empty diagram has two sides; they hold where both terms are typed
+-- The nine monoidal laws, of which the one on the empty diagram has two sides; they hold where both terms are typed. The
+-- hexagons, and swap ; swap = id, need no law of their own: every permutation of wires is one primitive term, so the sides
+-- of such an equation are permutations that are composed and put beside each other, and perm_then and perm_beside make
+-- each of them one permutation.
 pub data IsLaw : Morphism → Morphism → Type 0 where
   -- (a ; b) ; c = a ; (b ; c)
   then_assoc : (a b c : Morphism) → IsLaw (then (then a b) c) (then a (then b c))
@@ -36,7 +39,8 @@ pub data IsLaw : Morphism → Morphism → Type 0 where
   -- two permutations in a row are one
   perm_then : (a b : List Sort) (p q : List ℕ) → IsLaw (then (permutation a p) (permutation b q)) (permutation a (permuted p q))
   -- two permutations side by side are one
-  perm_beside : (a b : List Sort) (p q : List ℕ) → IsLaw (beside (permutation a p) (permutation b q)) (permutation (a ++ b) (p ++ shifted (length a) q))
+  perm_beside : (a b : List Sort) (p q : List ℕ)
+      → IsLaw (beside (permutation a p) (permutation b q)) (permutation (a ++ b) (p ++ shifted (length a) q))
   -- (f * g) ; swap = swap ; (g * f)
   slide : (f g : Morphism) → IsLaw (then (beside f g) (swap (cod f) (cod g))) (then (swap (dom f) (dom g)) (beside g f))
 
