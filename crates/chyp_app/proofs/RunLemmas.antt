@@ -1,5 +1,5 @@
 -- From what a command gives to what a run gives.
-use Rattle.std.proofs.Common.{◌≡◌, ℕ, List, Option, Some, None, IfSome, ◌⊎◌, inl, inr, refl, sym, ◌∙◌, ap, arith, append-nil}
+use Rattle.std.proofs.Common.{ℕ, List, Option, Some, None, IfSome, inl, inr, refl}
 use Rattle.chyp_base.specs.Library.{Texts}
 use Rattle.chyp_base.specs.declared.status.Status.{Status}
 use Rattle.chyp_base.specs.declared.status.Status.TheVariants.{BadWords}
@@ -18,71 +18,48 @@ gives_or_wants : (words : List (List ℕ)) (bytes : List ℕ) (texts : Texts) (s
 gives_or_wants words bytes texts status Holds w (inl e) = inl e
 gives_or_wants words bytes texts status Holds w (inr g) = inr (gives words bytes texts Holds w g)
 
-module _ (words : List (List ℕ)) (texts : Texts) (A B : Type 0) (left held : Option (List ℕ)) (steps : ℕ) where
-  module _ (w : Accepts words) (held_now : Option (List ℕ)) (steps_now : ℕ) where
-    pub output_checked : (status : Status) → IfSome left (λ text. IfSome held (λ h. A → B → EndsWell (IsCheck text) h held_now steps steps_now status))
-        → IfSome left (λ bytes. IfSome held (λ h. A → B → EndsWell (IsOutput words bytes texts) h held_now steps steps_now status))
-    output_checked status = go left held
-      where
-        go : (left held : Option (List ℕ)) → IfSome left (λ text. IfSome held (λ h. A → B → EndsWell (IsCheck text) h held_now steps steps_now status))
-            → IfSome left (λ bytes. IfSome held (λ h. A → B → EndsWell (IsOutput words bytes texts) h held_now steps steps_now status))
-        go None held p = tt
-        go (Some bytes) None p = tt
-        go (Some bytes) (Some h) p = λ a b. gives_or_wants words bytes texts status _ w (p a b)
+-- where the words are accepted, the clauses of `check` are those of the run
+module _ (words : List (List ℕ)) (texts : Texts) (w : Accepts words) (steps steps_now : ℕ) where
+  pub output_checked : (A B : Type 0) (status : Status) (held_now left held : Option (List ℕ))
+      → IfSome left (λ text. IfSome held (λ h. A → B → EndsWell (IsCheck text) h held_now steps steps_now status))
+      → IfSome left (λ bytes. IfSome held (λ h. A → B → EndsWell (IsOutput words bytes texts) h held_now steps steps_now status))
+  output_checked A B status held_now None held p = tt
+  output_checked A B status held_now (Some bytes) None p = tt
+  output_checked A B status held_now (Some bytes) (Some h) p = λ a b. gives_or_wants words bytes texts status _ w (p a b)
 
-    pub begun_checked : IfSome left (λ text. IfSome held (λ h. Begins (IsCheck text) h held_now steps steps_now))
-        → IfSome left (λ bytes. IfSome held (λ h. Begins (IsOutput words bytes texts) h held_now steps steps_now))
-    begun_checked = go left held
-      where
-        go : (left held : Option (List ℕ)) → IfSome left (λ text. IfSome held (λ h. Begins (IsCheck text) h held_now steps steps_now))
-            → IfSome left (λ bytes. IfSome held (λ h. Begins (IsOutput words bytes texts) h held_now steps steps_now))
-        go None held p = tt
-        go (Some bytes) None p = tt
-        go (Some bytes) (Some h) p = gives words bytes texts _ w p
+  pub begun_checked : (held_now left held : Option (List ℕ)) → IfSome left (λ text. IfSome held (λ h. Begins (IsCheck text) h held_now steps steps_now))
+      → IfSome left (λ bytes. IfSome held (λ h. Begins (IsOutput words bytes texts) h held_now steps steps_now))
+  begun_checked held_now None held p = tt
+  begun_checked held_now (Some bytes) None p = tt
+  begun_checked held_now (Some bytes) (Some h) p = gives words bytes texts _ w p
 
-    pub judged_checked : (status : Status) → IfSome left (λ text. A → B → EndsSo (IsCheck text) steps steps_now status)
-        → IfSome left (λ bytes. A → B → EndsSo (IsOutput words bytes texts) steps steps_now status)
-    judged_checked status = go left
-      where
-        go : (left : Option (List ℕ)) → IfSome left (λ text. A → B → EndsSo (IsCheck text) steps steps_now status)
-            → IfSome left (λ bytes. A → B → EndsSo (IsOutput words bytes texts) steps steps_now status)
-        go None p = tt
-        go (Some bytes) p = λ a b. gives_or_wants words bytes texts status _ w (p a b)
+  pub judged_checked : (A B : Type 0) (status : Status) (left : Option (List ℕ)) → IfSome left (λ text. A → B → EndsSo (IsCheck text) steps steps_now status)
+      → IfSome left (λ bytes. A → B → EndsSo (IsOutput words bytes texts) steps steps_now status)
+  judged_checked A B status None p = tt
+  judged_checked A B status (Some bytes) p = λ a b. gives_or_wants words bytes texts status _ w (p a b)
 
-    pub counted_checked : IfSome left (λ text. BeginsToCheck (IsCheck text) steps steps_now) → IfSome left (λ bytes. BeginsToCheck (IsOutput words bytes texts) steps steps_now)
-    counted_checked = go left
-      where
-        go : (left : Option (List ℕ)) → IfSome left (λ text. BeginsToCheck (IsCheck text) steps steps_now) → IfSome left (λ bytes. BeginsToCheck (IsOutput words bytes texts) steps steps_now)
-        go None p = tt
-        go (Some bytes) p = gives words bytes texts _ w p
+  pub counted_checked : (left : Option (List ℕ)) → IfSome left (λ text. BeginsToCheck (IsCheck text) steps steps_now)
+      → IfSome left (λ bytes. BeginsToCheck (IsOutput words bytes texts) steps steps_now)
+  counted_checked None p = tt
+  counted_checked (Some bytes) p = gives words bytes texts _ w p
 
-  module _ (n : ¬ Accepts words) where
-    pub output_refused : IfSome left (λ bytes. IfSome held (λ h. A → B → EndsWell (IsOutput words bytes texts) h held steps steps BadWords))
-    output_refused = go left held
-      where
-        go : (left held : Option (List ℕ)) → IfSome left (λ bytes. IfSome held (λ h. A → B → EndsWell (IsOutput words bytes texts) h held steps steps BadWords))
-        go None held = tt
-        go (Some bytes) None = tt
-        go (Some bytes) (Some h) = λ a b. nothing_given _ h (Some h) steps BadWords refl (of_bad_words n)
+-- where they are not, nothing but the status is given
+module _ (words : List (List ℕ)) (texts : Texts) (n : ¬ Accepts words) (steps : ℕ) where
+  pub output_refused : (A B : Type 0) (left held : Option (List ℕ))
+      → IfSome left (λ bytes. IfSome held (λ h. A → B → EndsWell (IsOutput words bytes texts) h held steps steps BadWords))
+  output_refused A B None held = tt
+  output_refused A B (Some bytes) None = tt
+  output_refused A B (Some bytes) (Some h) = λ a b. nothing_given _ h (Some h) steps BadWords refl (of_bad_words n)
 
-    pub begun_refused : IfSome left (λ bytes. IfSome held (λ h. Begins (IsOutput words bytes texts) h held steps steps))
-    begun_refused = go left held
-      where
-        go : (left held : Option (List ℕ)) → IfSome left (λ bytes. IfSome held (λ h. Begins (IsOutput words bytes texts) h held steps steps))
-        go None held = tt
-        go (Some bytes) None = tt
-        go (Some bytes) (Some h) = begins_none _ h (Some h) steps refl (_, of_bad_words n)
+  pub begun_refused : (left held : Option (List ℕ)) → IfSome left (λ bytes. IfSome held (λ h. Begins (IsOutput words bytes texts) h held steps steps))
+  begun_refused None held = tt
+  begun_refused (Some bytes) None = tt
+  begun_refused (Some bytes) (Some h) = begins_none _ h (Some h) steps refl (_, of_bad_words n)
 
-    pub judged_refused : IfSome left (λ bytes. A → B → EndsSo (IsOutput words bytes texts) steps steps BadWords)
-    judged_refused = go left
-      where
-        go : (left : Option (List ℕ)) → IfSome left (λ bytes. A → B → EndsSo (IsOutput words bytes texts) steps steps BadWords)
-        go None = tt
-        go (Some bytes) = λ a b. nothing_judged _ steps BadWords (of_bad_words n)
+  pub judged_refused : (A B : Type 0) (left : Option (List ℕ)) → IfSome left (λ bytes. A → B → EndsSo (IsOutput words bytes texts) steps steps BadWords)
+  judged_refused A B None = tt
+  judged_refused A B (Some bytes) = λ a b. nothing_judged _ steps BadWords (of_bad_words n)
 
-    pub counted_refused : IfSome left (λ bytes. BeginsToCheck (IsOutput words bytes texts) steps steps)
-    counted_refused = go left
-      where
-        go : (left : Option (List ℕ)) → IfSome left (λ bytes. BeginsToCheck (IsOutput words bytes texts) steps steps)
-        go None = tt
-        go (Some bytes) = counts_none _ steps (_, of_bad_words n)
+  pub counted_refused : (left : Option (List ℕ)) → IfSome left (λ bytes. BeginsToCheck (IsOutput words bytes texts) steps steps)
+  counted_refused None = tt
+  counted_refused (Some bytes) = counts_none _ steps (_, of_bad_words n)
