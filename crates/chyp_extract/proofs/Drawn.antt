@@ -1,6 +1,5 @@
 -- A term that carries the inputs of a valid graph to its outputs, through all its edges, is drawn by the graph.
-use Rattle.std.proofs.Common.{ℕ, ◌<◌, ◌≡◌, List, [], ◌∷◌, ◌++◌, map, length, flat_map, Option, Some, option_map, slice_get, slice_index, ◌⊎◌, inl, inr, refl}
-use Rattle.std.proofs.Common.{sym, ◌∙◌, ap, ap₂, subst}
+use Rattle.std.proofs.Common.{ℕ, ◌<◌, ◌≡◌, List, [], ◌∷◌, ◌++◌, map, length, flat_map, Option, Some, option_map, slice_get, slice_index, ◌⊎◌, inl, inr, refl, sym, ◌∙◌, ap, ap₂, subst}
 use Rattle.std.proofs.lemmas.List.{length-map, map-append}
 use Rattle.chyp_term.specs.Morphism.{Morphism, dom}
 use Rattle.chyp_term.specs.Perm.{IsPermutation, count_from}
@@ -13,13 +12,12 @@ use Rattle.chyp_theory.proofs.Renaming.{In, Producer, Target}
 use Rattle.chyp_theory.proofs.Running.{EdgeOf, label_of}
 use Rattle.chyp_graph.specs.PlainGraph.{Edge, PlainGraph, targets_of}
 use Rattle.chyp_graph.specs.Validity.{IsValid}
-use Rattle.chyp_graph.proofs.Members.{Member, below-member, flat-member, get-member, map-member, member-below, member-flat, member-left, member-map}
-use Rattle.chyp_graph.proofs.Members.{member-right, member-split}
-use Rattle.chyp_graph.proofs.Rearrangement.{Rearr, Rearr-flat, Rearr-left, flat-map}
-use Rattle.chyp_laws.proofs.Drawing.{IsWire, drawn, edges_of, sort_at}
+use Rattle.chyp_term.proofs.Members.{Member, below-member, flat-member, get-member, map-member, member-below, member-flat, member-left, member-map, member-right, member-split}
+use Rattle.chyp_term.proofs.Rearrangement.{Rearr, Rearr-flat, Rearr-left, flat-map}
+use Rattle.chyp_laws.proofs.Drawing.{IsWire, drawn, sort_at}
+use Rattle.chyp_theory.proofs.EdgeLists.{edges_of, edge_at, edge_of, number, number_at, number_below}
 use Rattle.chyp_laws.proofs.Draws.{Draws}
-use Rattle.chyp_laws.proofs.Edges.{edge_at, edge_of, number, number_at, number_below}
-use Rattle.chyp_extract.proofs.Blocks.{Rearr-perm, permutation-member, rearr_perm}
+use Rattle.chyp_term.proofs.Blocks.{Rearr-perm, permutation-member, rearr_perm}
 use Rattle.chyp_extract.proofs.Numbered.{is-numbered, numbered, numbered-back, place-at}
 use Rattle.chyp_extract.proofs.Reading.{all-edges, read-index, runs, same-name, sort-at, sorts-length, sources-in, stands_for, target-sorts, typing}
 use Rattle.chyp_extract.proofs.Spans.{Carries}

@@ -1,5 +1,4 @@
 pub mod Examples
-pub mod Blocks
 pub mod Spans
 pub mod Halves
 pub mod Layers

@@ -5,9 +5,8 @@ use Rattle.chyp_term.specs.Positions.{place_of}
 use Rattle.chyp_term.proofs.Closure.{index-get}
 use Rattle.chyp_term.proofs.Inverses.{place-found, place_in}
 use Rattle.chyp_term.proofs.Positions.{slice_get-length}
-use Rattle.chyp_graph.proofs.Members.{Member, get-member, member-get, place-first}
-use Rattle.chyp_term.proofs.Permuted.{get-map}
-use Rattle.chyp_laws.proofs.Edges.{in_map}
+use Rattle.chyp_term.proofs.Members.{Member, get-member, member-get, place-first}
+use Rattle.chyp_term.proofs.Permuted.{get-map, in_map}
 
 -- a number that stands at a place of a permutation stands at no place before
 pub place-at : (n : ℕ) (p : List ℕ) → IsPermutation n p → (j k : ℕ) → slice_get p j ≡ Some k → place_of k p ≡ Some j

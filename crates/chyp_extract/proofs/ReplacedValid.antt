@@ -13,7 +13,7 @@ use Rattle.chyp_graph.specs.GraphOf.{graph_of}
 use Rattle.chyp_graph.specs.Isomorphism.{Isomorphic}
 use Rattle.chyp_graph.specs.PlainGraph.{PlainGraph, input_sorts, output_sorts}
 use Rattle.chyp_graph.specs.Validity.{IsValid}
-use Rattle.chyp_graph.proofs.Rearrangement.{all-under}
+use Rattle.chyp_term.proofs.Rearrangement.{all-under}
 use Rattle.chyp_graph.proofs.Validity.{valid}
 use Rattle.chyp_laws.proofs.AlikeIsomorphic.{isomorphic}
 use Rattle.chyp_laws.proofs.Draws.{Draws, draw_s, ins-size}
@@ -23,9 +23,8 @@ use Rattle.chyp_extract.proofs.Drawn.{drawn_by}
 use Rattle.chyp_extract.proofs.Layers.{sorts-of}
 use Rattle.chyp_extract.proofs.Rounds.{whole}
 use Rattle.chyp_extract.proofs.Theorem.{extracted_typed, extracted_types}
-use Rattle.chyp_graph.specs.Replacement.{IsGraphRule}
-use Rattle.chyp_graph.specs.Occurrence.{IsOccurrence}
-use Rattle.chyp_graph.specs.Replacement.{replaced}
+use Rattle.chyp_pattern.specs.Replacement.{IsGraphRule, replaced}
+use Rattle.chyp_pattern.specs.Occurrence.{IsOccurrence}
 use Rattle.chyp_laws.proofs.Context.{other_draws, other_typed, HasContext}
 use Rattle.chyp_laws.proofs.Front.{low_inputs, low_run}
 use Rattle.chyp_graph.proofs.IsomorphicValid.{isomorphic_valid}

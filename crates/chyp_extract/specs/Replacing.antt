@@ -2,9 +2,9 @@
 use Rattle.std.specs.Prelude.{ℕ, ◌≡◌, List}
 use Rattle.chyp_graph.specs.PlainGraph.{PlainGraph, input_sorts, output_sorts}
 use Rattle.chyp_graph.specs.Validity.{IsValid}
-use Rattle.chyp_graph.specs.Occurrence.{IsOccurrence}
-use Rattle.chyp_graph.specs.Replacement.{replaced}
-use Rattle.chyp_graph.specs.Replacement.{IsGraphRule}
+use Rattle.chyp_pattern.specs.Occurrence.{IsOccurrence}
+use Rattle.chyp_pattern.specs.Replacement.{replaced}
+use Rattle.chyp_pattern.specs.Replacement.{IsGraphRule}
 
 -- a graph replaced at an occurrence is valid
 abbrev pub ReplacedAreValid : Type 0

@@ -7,8 +7,8 @@ use Rattle.chyp_term.proofs.Positions.{count_from-append}
 use Rattle.chyp_graph.specs.Composition.{beside_graph}
 use Rattle.chyp_graph.specs.PlainGraph.{Edge, PlainGraph, renamed, sources_of, targets_of}
 use Rattle.chyp_graph.specs.Validity.{IsValid, is_ready}
-use Rattle.chyp_graph.proofs.Members.{Member, map-member, member-left, member-map, member-right, member-split}
-use Rattle.chyp_graph.proofs.Rearrangement.{Rearr, Rearr-append, Rearr-inner, Rearr-map, Rearr-permutation, Rearr-same, join, permutation-Rearr}
+use Rattle.chyp_term.proofs.Members.{Member, map-member, member-left, member-map, member-right, member-split}
+use Rattle.chyp_term.proofs.Rearrangement.{Rearr, Rearr-append, Rearr-inner, Rearr-map, Rearr-permutation, Rearr-same, join, permutation-Rearr}
 use Rattle.chyp_graph.proofs.Rounds.{IsTaken, all-taken, carry, edge-taken, live_after, ready-more, ready-renamed}
 use Rattle.chyp_graph.proofs.ThenValid.{renamed-id, sources-joined, targets-joined}
 

@@ -1,23 +1,24 @@
 -- The rounds in which edges are taken away, from an order in which they can be.
-use Rattle.std.proofs.Common.{ℕ, zero, suc, ◌+◌, ◌-◌, ◌<◌, ◌≤◌, ◌≡◌, ◌≢◌, true, false, List, [], ◌∷◌, ◌++◌, length, take, Some, slice_get, slice_index, slice_set, replicate, ◌⊎◌, inl, inr, All, refl, sym, ◌∙◌, ap, subst, arith}
+use Rattle.std.proofs.Common.{[], ℕ, zero, suc, ◌+◌, ◌-◌, ◌<◌, ◌≤◌, ◌≡◌, ◌≢◌, true, false, List, ◌∷◌, ◌++◌, length, take, Some, slice_get, slice_index, slice_set, ◌⊎◌, inl, inr, All, refl}
+use Rattle.std.proofs.Common.{sym, ◌∙◌, ap, subst, arith}
 use Rattle.std.specs.List.{cons_option}
 use Rattle.std.proofs.lemmas.Bool.{cases_Bool, cases_lt}
-use Rattle.std.proofs.lemmas.List.{length-replicate}
 use Rattle.std.proofs.Math.ListN.{length-set}
 use Rattle.chyp_term.specs.Perm.{permuted}
 use Rattle.chyp_term.specs.Positions.{is_among}
 use Rattle.chyp_term.proofs.Closure.{get-index, index-get}
 use Rattle.chyp_term.proofs.Permuted.{permuted-append}
 use Rattle.chyp_term.proofs.Positions.{slice_get-length}
+use Rattle.chyp_term.proofs.Members.{Member, all-members, among-member, filter-member, flat-member, get-member, member-among, member-flat, member-get, member-left, member-right, member-split}
+use Rattle.chyp_term.proofs.Members.{members-all, All-from_get_members, Contains-member}
+use Rattle.chyp_term.proofs.Slices.{get-set_other, take-suc, set-cases}
+use Rattle.chyp_term.proofs.Rearrangement.{flat-append}
 use Rattle.chyp_graph.specs.Graph.{target_at}
 use Rattle.chyp_graph.specs.PlainGraph.{Edge, PlainGraph, targets_of}
 use Rattle.chyp_graph.specs.Removal.{AreDated, IsLiveFrom, IsOrder, IsWritten, live_behind}
 use Rattle.chyp_graph.specs.Rounds.{AreRounds, IsRound, is_taken_within}
 use Rattle.chyp_graph.specs.Validity.{IsValid, is_ready, taken_within}
-use Rattle.chyp_graph.proofs.Members.{Member, all-members, among-member, filter-member, flat-member, get-member, member-among, member-flat, member-get, member-left, member-right, member-split, members-all}
-use Rattle.chyp_graph.proofs.Ports.{All-from_get_members, Contains-member, get-set_other, take-suc}
-use Rattle.chyp_graph.proofs.Rearrangement.{flat-append}
-use Rattle.chyp_graph.proofs.Removing.{Once-apart, Once-perm, Once-right, all-same, port-once, set-cases}
+use Rattle.chyp_graph.proofs.Removing.{Once-apart, Once-perm, Once-right, port-once}
 use Rattle.chyp_graph.proofs.Rounds.{edge-taken, live-later, live_after, taken-member}
 
 -- ## numbers written at wires
@@ -152,15 +153,6 @@ target-live g v k e r w q t m = record { by_then = now r t.by_then; not_before =
             let f = t.not_before n l in
             let y = taken n d.0 d.1 (same d.0 (inside n d.0 d.1) d.2) in
             cc
-
--- ## the loop
-
-pub dated-start : (g : PlainGraph) (n : ℕ) (dates : List ℕ) → n ≡ length g.wires → dates ≡ replicate n 0 → AreDated g (live_behind g []) dates
-dated-start g n dates l e = record {
-  size = ap length e ∙ length-replicate n 0 ∙ l;
-  few = All-from_get_members {P = λ m. m < 2147483648} dates (λ m k. let i = member-get dates m k in let z = all-same n 0 dates e i.0 m i.1 in omega arith);
-  each = λ w m a h. subst (IsLiveFrom g w) (sym (all-same n 0 dates e w m h)) (record { by_then = a; not_before = λ q b. absurd (omega arith) });
-}
 
 pub dated-more : (g : PlainGraph) → IsValid g → length g.edges < 2147483648 → (order dates new : List ℕ) (j k r : ℕ) (e : Edge) → slice_get order j ≡ Some k → slice_get g.edges k ≡ Some e → IsRound g e r
     → AreDated g (live_behind g (take j order)) dates → IsWritten e.targets r dates new → AreDated g (live_behind g (take (j + 1) order)) new

@@ -1,5 +1,6 @@
 -- Drawing a composite is drawing its parts, one after the other: graphs behind graphs, and beside them.
-use Rattle.std.proofs.Common.{ℕ, zero, suc, ◌+◌, ◌<◌, ◌≤◌, ◌≡◌, Bool, true, false, not, cond, eqb, List, [], ◌∷◌, ◌++◌, map, length, filter, Option, Some, None, option_map, slice_index, ◌⊎◌, inl, inr, refl, sym, ◌∙◌, ap, ap₂, subst, arith, append_assoc, length-append, zero-add, ne_eqb, eq-eqb, eqb-true}
+use Rattle.std.proofs.Common.{ℕ, zero, suc, ◌+◌, ◌<◌, ◌≤◌, ◌≡◌, Bool, true, false, not, cond, eqb, List, [], ◌∷◌, ◌++◌, map, length, filter, Option, Some, None, option_map, slice_index}
+use Rattle.std.proofs.Common.{◌⊎◌, inl, inr, refl, sym, ◌∙◌, ap, ap₂, subst, arith, append_assoc, length-append, zero-add, ne_eqb, eq-eqb, eqb-true}
 use Rattle.std.proofs.lemmas.List.{map-append}
 use Rattle.std.proofs.lemmas.List.Elements.{filter-append}
 use Rattle.std.proofs.lemmas.Bool.{cases_Bool}
@@ -14,8 +15,8 @@ use Rattle.chyp_graph.specs.Composition.{beside_graph, inner, inner_wires, joine
 use Rattle.chyp_graph.specs.Draft.{followed}
 use Rattle.chyp_graph.specs.PlainGraph.{Edge, PlainGraph, renamed}
 use Rattle.chyp_graph.specs.Validity.{IsValid}
-use Rattle.chyp_graph.proofs.Members.{Member, Rearr-member, filter-all, map-member, map-same_on, member-below, member-flat, member-left, member-right, not_member-apart}
-use Rattle.chyp_graph.proofs.Rearrangement.{Rearr-sym, permutation-Rearr}
+use Rattle.chyp_term.proofs.Members.{Member, Rearr-member, filter-all, map-member, map-same_on, member-below, member-flat, member-left, member-right, not_member-apart}
+use Rattle.chyp_term.proofs.Rearrangement.{Rearr-sym, permutation-Rearr}
 use Rattle.chyp_graph.proofs.ThenValid.{length-inner}
 
 -- ## plain graphs part by part

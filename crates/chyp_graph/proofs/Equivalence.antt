@@ -1,13 +1,9 @@
 -- Isomorphism of plain graphs is an equivalence.
-use Rattle.std.proofs.Common.{ℕ, ◌<◌, ◌≡◌, List, [], ◌∷◌, map, length, Option, Some, None, option_map, slice_get, refl, sym, ◌∙◌, ap, ap₂}
+use Rattle.std.proofs.Common.{[], ℕ, ◌<◌, ◌≡◌, List, ◌∷◌, map, length, Option, Some, None, option_map, slice_get, refl, sym, ◌∙◌, ap, ap₂}
 use Rattle.chyp_term.proofs.Permuted.{Under, found}
-use Rattle.chyp_term.proofs.Positions.{map-map}
+use Rattle.chyp_term.proofs.Positions.{map-map, map-id}
 use Rattle.chyp_graph.specs.Isomorphism.{IsBijection, Isomorphic}
 use Rattle.chyp_graph.specs.PlainGraph.{Edge, PlainGraph, renamed}
-
-pub map-id : (xs : List ℕ) → map (λ x. x) xs ≡ xs
-map-id [] = refl
-map-id (x ∷ xs) = ap (λ r. x ∷ r) (map-id xs)
 
 pub option-renamed-id : (o : Option Edge) → o ≡ option_map (renamed (λ w. w)) o
 option-renamed-id None = refl

@@ -1,6 +1,5 @@
 -- A graph that is isomorphic to a valid one is valid.
-use Rattle.std.proofs.Common.{ℕ, ◌<◌, ◌≡◌, true, List, [], ◌∷◌, ◌++◌, map, length, Option, Some, None, option_map, slice_get, refl, sym, ◌∙◌, ap, ap₂, subst}
-use Rattle.std.proofs.Common.{arith, zero-add}
+use Rattle.std.proofs.Common.{ℕ, ◌<◌, ◌≡◌, true, List, [], ◌∷◌, ◌++◌, map, length, Option, Some, None, option_map, slice_get, refl, sym, ◌∙◌, ap, ap₂, subst, arith, zero-add}
 use Rattle.std.specs.List.{cons_option}
 use Rattle.std.proofs.lemmas.List.{length-map, map-append}
 use Rattle.chyp_term.specs.Perm.{IsPermutation, count_from, permuted}
@@ -8,13 +7,12 @@ use Rattle.chyp_term.proofs.Permuted.{Under, Under-count_from, permuted-all}
 use Rattle.chyp_graph.specs.Isomorphism.{IsBijection, Isomorphic}
 use Rattle.chyp_graph.specs.PlainGraph.{Edge, PlainGraph, renamed, sources_of, targets_of}
 use Rattle.chyp_graph.specs.Validity.{IsValid, is_ready}
-use Rattle.chyp_graph.proofs.Members.{Member, Rearr-member, below-member, map-member, member-below, member-left, member-map}
-use Rattle.chyp_graph.proofs.Rearrangement.{Rearr, Rearr-append, Rearr-filter_map, Rearr-flat, Rearr-length, Rearr-map, Rearr-permutation, Rearr-same}
-use Rattle.chyp_graph.proofs.Rearrangement.{Rearr-sym, join, permutation-Rearr}
+use Rattle.chyp_term.proofs.Members.{Member, Rearr-member, below-member, map-member, member-below, member-left, member-map}
+use Rattle.chyp_term.proofs.Rearrangement.{Rearr, Rearr-append, Rearr-filter_map, Rearr-flat, Rearr-length, Rearr-map, Rearr-permutation, Rearr-same, Rearr-sym, join, permutation-Rearr}
 use Rattle.chyp_graph.proofs.Rounds.{IsTaken, all-taken, carry, edge-taken, live_after, ready-renamed}
 use Rattle.chyp_graph.proofs.ThenValid.{sources-joined, targets-joined}
-use Rattle.chyp_graph.proofs.Apart.{Apart-count, numbers_apart}
-use Rattle.chyp_graph.proofs.SameMembers.{member-count, rearr_members}
+use Rattle.chyp_term.proofs.Apart.{Apart-count, numbers_apart}
+use Rattle.chyp_term.proofs.SameMembers.{member-count, rearr_members}
 
 -- a bijection rearranges the numbers
 pub bijection-Rearr : (m n : ℕ) (f g : ℕ → ℕ) → IsBijection m n f g → Rearr (count_from 0 n) (map f (count_from 0 m))

@@ -1,5 +1,6 @@
 -- Drawing a generator and a permutation; and how many wires a term draws.
-use Rattle.std.proofs.Common.{ℕ, zero, suc, ◌+◌, ◌<◌, ◌≤◌, ◌≡◌, Bool, true, false, cond, List, [], ◌∷◌, ◌++◌, map, length, filter, take, drop, refl, sym, ◌∙◌, ap, ap₂, subst, arith, append_assoc, append-nil, length-append, length-take, length-drop, zero-add, suc-add, slice_index, get_or}
+use Rattle.std.proofs.Common.{ℕ, zero, suc, ◌+◌, ◌<◌, ◌≤◌, ◌≡◌, Bool, true, false, cond, List, [], ◌∷◌, ◌++◌, map, length, filter, take, drop, refl, sym, ◌∙◌, ap, ap₂, subst, arith}
+use Rattle.std.proofs.Common.{append_assoc, append-nil, length-append, length-take, length-drop, zero-add, suc-add, slice_index, get_or}
 use Rattle.std.specs.List.{cons_option}
 use Rattle.std.proofs.lemmas.List.{length-map}
 use Rattle.chyp_base.specs.declared.sort.Sort.{Sort}
@@ -7,17 +8,17 @@ use Rattle.chyp_term.specs.Morphism.{IsTyped, Morphism, beside, cod, generator, 
 use Rattle.chyp_term.specs.Perm.{IsPermutation, count_from, permuted, shifted}
 use Rattle.chyp_term.specs.Positions.{is_apart}
 use Rattle.chyp_term.specs.Measure.{size_of}
-use Rattle.chyp_term.proofs.Closure.{Under-perm, get-index}
+use Rattle.chyp_term.proofs.Closure.{Under-perm, get-index, get-item}
 use Rattle.chyp_term.proofs.Inverses.{length-shifted, permuted-numbers}
 use Rattle.chyp_term.proofs.Permuted.{Under, Under-count_from, count_from-0, count_from-shifted, length-count_from, permuted-append, permuted-map, permuted-right}
-use Rattle.chyp_term.proofs.Positions.{count_from-push}
+use Rattle.chyp_term.proofs.Counting.{count_from-push}
 use Rattle.chyp_graph.specs.Composition.{beside_graph, inner, inner_wires, joined}
 use Rattle.chyp_graph.specs.Draft.{followed}
 use Rattle.chyp_graph.specs.GraphOf.{graph_of}
 use Rattle.chyp_graph.specs.PlainGraph.{Edge, PlainGraph, renamed}
 use Rattle.chyp_graph.proofs.Drafting.{inner-beyond, plain-same}
-use Rattle.chyp_graph.proofs.Members.{filter-none, member-not_apart}
-use Rattle.chyp_graph.proofs.Ports.{get-is, take-suc}
+use Rattle.chyp_term.proofs.Members.{filter-none, member-not_apart}
+use Rattle.chyp_term.proofs.Slices.{take-suc}
 use Rattle.chyp_graph.proofs.ThenValid.{joined-inner, joined-inputs, length-inner}
 use Rattle.chyp_graph.proofs.Validity.{generator_valid, length-outputs, permutation_valid}
 
@@ -195,11 +196,11 @@ pushed-at list live places before after i x h b e q r =
     r ∙ ap (λ l. l ++ x ∷ []) q ∙ append_assoc list (permuted live (take i places)) (x ∷ [])
     ∙ ap (λ l. list ++ l) (sym (ap (permuted live) (take-suc places i (slice_index places i) (get-index places i h))
     ∙ permuted-append live (take i places) (slice_index places i ∷ [])
-    ∙ ap (λ o. permuted live (take i places) ++ cons_option o []) (get-is live (slice_index places i) x b e)))
+    ∙ ap (λ o. permuted live (take i places) ++ cons_option o []) (get-item live (slice_index places i) x b e)))
 
 pub pushed-item : {A : Type 0} (list items before after : List A) (i : ℕ) (x : A) → i < length items → x ≡ get_or items i x → before ≡ list ++ take i items → after ≡ before ++ x ∷ [] → after ≡ list ++ take (i + 1) items
 pushed-item list items before after i x h e q r =
-    r ∙ ap (λ l. l ++ x ∷ []) q ∙ append_assoc list (take i items) (x ∷ []) ∙ ap (λ l. list ++ l) (sym (take-suc items i x (get-is items i x h e)))
+    r ∙ ap (λ l. l ++ x ∷ []) q ∙ append_assoc list (take i items) (x ∷ []) ∙ ap (λ l. list ++ l) (sym (take-suc items i x (get-item items i x h e)))
 
 pub pushed-number : (k i x : ℕ) (before after : List ℕ) → x ≡ k + i → before ≡ count_from k i → after ≡ before ++ x ∷ [] → after ≡ count_from k (i + 1)
 pushed-number k i x before after e q r = let l : suc i ≡ i + 1 = omega arith in r ∙ ap₂ (λ a b. a ++ b ∷ []) q e ∙ sym (count_from-push k i) ∙ ap (count_from k) l

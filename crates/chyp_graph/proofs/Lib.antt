@@ -1,7 +1,5 @@
 pub mod Inner
 pub mod Equivalence
-pub mod Rearrangement
-pub mod Members
 pub mod Rounds
 pub mod ThenValid
 pub mod BesideValid
@@ -13,13 +11,5 @@ pub mod Steps
 pub mod Numbering
 pub mod Removing
 pub mod Dating
-pub mod Sweeping
-pub mod Joined
-pub mod Anchoring
-mod Examples
-pub mod Apart
-pub mod SameMembers
-pub mod Ordered
-pub mod Reached
-pub mod Listed
 pub mod IsomorphicValid
+pub mod Deciding

@@ -1,5 +1,6 @@
 -- Wires and edges under new numbers, by a table of numbers.
-use Rattle.std.proofs.Common.{ℕ, suc, ◌+◌, ◌<◌, ◌≤◌, ◌≡◌, true, false, cond, List, [], ◌∷◌, ◌++◌, map, length, take, Option, Some, None, slice_get, slice_index, get_or, All, inl, inr, refl, sym, ◌∙◌, ap, ap₂, subst, arith, append_assoc, length-append, append-nil, zero-add, not}
+use Rattle.std.proofs.Common.{[], ℕ, suc, ◌+◌, ◌<◌, ◌≤◌, ◌≡◌, true, false, cond, List, ◌∷◌, ◌++◌, map, length, Option, Some, None, slice_get, slice_index, All, inl, inr, refl, sym, ◌∙◌}
+use Rattle.std.proofs.Common.{ap, ap₂, subst, arith, append_assoc, length-append, append-nil, zero-add, not}
 use Rattle.std.specs.List.{cons_option}
 use Rattle.std.proofs.lemmas.List.{map-append, length-map}
 use Rattle.chyp_base.specs.declared.sort.Sort.{Sort}
@@ -8,16 +9,16 @@ use Rattle.chyp_term.specs.Positions.{is_among, is_apart, is_there, place_of}
 use Rattle.chyp_term.proofs.Closure.{index-get}
 use Rattle.chyp_term.proofs.Inverses.{get-count0, place-found}
 use Rattle.chyp_term.proofs.Permuted.{Under, count_from-0, length-count_from, length-permuted, permuted-append}
-use Rattle.chyp_term.proofs.Positions.{Under-filter, count_from-push, upto-suc}
+use Rattle.chyp_term.proofs.Positions.{Under-filter, upto-suc}
+use Rattle.chyp_term.proofs.Counting.{count_from-push}
+use Rattle.chyp_term.proofs.Members.{Member, Rearr-member, map-same_on, member-below, member-flat, member-left, member-right, place-first, All-from_get_members, All-members}
+use Rattle.chyp_term.proofs.Rearrangement.{Rearr-sym, permutation-Rearr}
 use Rattle.chyp_graph.specs.Composition.{beside_graph, inner, inner_wires, joined, joined_at, then_graph}
 use Rattle.chyp_graph.specs.Joining.{number_behind}
 use Rattle.chyp_graph.specs.PlainGraph.{Edge, PlainGraph, input_sorts, output_sorts, renamed}
 use Rattle.chyp_graph.specs.Validity.{IsValid}
 use Rattle.chyp_graph.proofs.Drafting.{index-map, place-below, plain-same, renamed-on}
 use Rattle.chyp_graph.proofs.Leaves.{filter-few, inner-few}
-use Rattle.chyp_graph.proofs.Members.{Member, Rearr-member, map-same_on, member-below, member-flat, member-left, member-right, place-first}
-use Rattle.chyp_graph.proofs.Ports.{All-from_get_members, All-members, get-is, take-suc}
-use Rattle.chyp_graph.proofs.Rearrangement.{Rearr-sym, permutation-Rearr}
 use Rattle.chyp_graph.proofs.ThenValid.{length-inner}
 
 -- ## tables
@@ -66,13 +67,6 @@ module _ (h : PlainGraph) (v : IsValid h) (f : ℕ → ℕ) (numbers : List ℕ)
 
   pub outputs-by : map (slice_index numbers) h.outputs ≡ map f h.outputs
   outputs-by = map-same_on (slice_index numbers) f h.outputs (λ w k. table-index f (length h.wires) numbers e w (output-below h v w k))
-
--- ## one item more
-
-pub pushed-map : {A B : Type 0} (f : A → B) (list : List B) (items : List A) (before after : List B) (i : ℕ) (x : A) (y : B) → i < length items → x ≡ get_or items i x → y ≡ f x → before ≡ list ++ map f (take i items) → after ≡ before ++ y ∷ [] → after ≡ list ++ map f (take (i + 1) items)
-pushed-map f list items before after i x y h e g q r =
-    r ∙ ap₂ (λ l z. l ++ z ∷ []) q g ∙ append_assoc list (map f (take i items)) (f x ∷ [])
-    ∙ ap (λ l. list ++ l) (sym (ap (map f) (take-suc items i x (get-is items i x h e)) ∙ map-append f (take i items) (x ∷ [])))
 
 -- ## beside
 

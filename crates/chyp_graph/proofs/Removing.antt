@@ -1,6 +1,6 @@
 -- Taking edges away one by one.
-use Rattle.std.proofs.Common.{ℕ, zero, suc, ◌+◌, ◌<◌, ◌≤◌, ◌≡◌, ◌≢◌, Bool, true, false, eqb, List, [], ◌∷◌, ◌++◌, length, take, flat_map, Option, Some, None, slice_get, slice_index, slice_set, ◌⊎◌, inl, inr, All, Contains, refl, sym, ◌∙◌, ap, subst, arith, append_assoc, eq-eqb, ne_eqb, replicate}
-use Rattle.std.specs.List.{cons_option}
+use Rattle.std.proofs.Common.{[], ℕ, zero, suc, ◌+◌, ◌<◌, ◌≤◌, ◌≡◌, ◌≢◌, Bool, true, false, List, ◌∷◌, ◌++◌, length, take, flat_map, Option, Some, None, slice_get, slice_index, slice_set}
+use Rattle.std.proofs.Common.{◌⊎◌, inl, inr, All, Contains, refl, sym, ◌∙◌, ap, subst, arith, append_assoc, replicate}
 use Rattle.std.specs.Option.{option_and_then}
 use Rattle.std.proofs.lemmas.Bool.{cases_eq, cases_lt}
 use Rattle.std.proofs.lemmas.List.{length-replicate, take-append-le, take_all}
@@ -11,13 +11,14 @@ use Rattle.chyp_term.proofs.Closure.{get-index, index-get}
 use Rattle.chyp_term.proofs.Inverting.{pigeonhole}
 use Rattle.chyp_term.proofs.Permuted.{found, get-append_left, get-append_right, permuted-append}
 use Rattle.chyp_term.proofs.Positions.{slice_get-length}
+use Rattle.chyp_term.proofs.Members.{Member, Rearr-member, all-members, among-member, filter-member, flat-member, get-member, member-among, member-below, member-flat, member-get, member-left}
+use Rattle.chyp_term.proofs.Members.{member-right, member-split, members-all, All-from_get_members, Contains-member, member-Contains, member-permuted}
+use Rattle.chyp_term.proofs.Slices.{get-set_other, get-set_same, take-suc, push-cases, set-cases, get-end, all-same}
+use Rattle.chyp_term.proofs.Rearrangement.{Rearr-sym, flat-append, permutation-Rearr}
 use Rattle.chyp_graph.specs.Graph.{source_at}
 use Rattle.chyp_graph.specs.PlainGraph.{Edge, PlainGraph, sources_of, targets_of}
 use Rattle.chyp_graph.specs.Removal.{AreLive, Grows, IsOrder, IsSourceless, IsWaiting, StayLive, live_behind}
 use Rattle.chyp_graph.specs.Validity.{IsValid, is_ready, taken_within}
-use Rattle.chyp_graph.proofs.Members.{Member, Rearr-member, all-members, among-member, filter-member, flat-member, get-member, member-among, member-below, member-flat, member-get, member-left, member-right, member-split, members-all}
-use Rattle.chyp_graph.proofs.Ports.{All-from_get_members, Contains-member, get-set_other, get-set_same, member-Contains, take-suc}
-use Rattle.chyp_graph.proofs.Rearrangement.{Rearr-sym, flat-append, permutation-Rearr}
 use Rattle.chyp_graph.proofs.Rounds.{edge-taken, live_after}
 
 -- ## each item at one place
@@ -48,16 +49,6 @@ Once-apart xs ys o k m n =
     let e : a.0 ≡ length xs + b.0 = o a.0 (length xs + b.0) k (get-append_left xs ys a.0 l ∙ a.1) (get-append_right xs ys b.0 ∙ b.1) in
     omega arith
 
-pub push-cases : {A : Type 0} (xs : List A) (x : A) (i : ℕ) (y : A) → slice_get (xs ++ x ∷ []) i ≡ Some y → (slice_get xs i ≡ Some y) ⊎ ((i ≡ length xs) × (y ≡ x))
-push-cases [] x zero y a = inr (refl, cc)
-push-cases [] x (suc i) y a = cc
-push-cases (z ∷ xs) x zero y a = inl a
-push-cases {A} (z ∷ xs) x (suc i) y a = go (push-cases xs x i y a)
-  where
-    go : (slice_get xs i ≡ Some y) ⊎ ((i ≡ length xs) × (y ≡ x)) → (slice_get xs i ≡ Some y) ⊎ ((suc i ≡ suc (length xs)) × (y ≡ x))
-    go (inl q) = inl q
-    go (inr q) = inr (ap suc q.0, q.1)
-
 pub Once-push : (xs : List ℕ) (x : ℕ) → Once xs → (Member x xs → ⊥) → Once (xs ++ x ∷ [])
 Once-push xs x o n i j k a b = go (push-cases xs x i k a) (push-cases xs x j k b)
   where
@@ -66,13 +57,6 @@ Once-push xs x o n i j k a b = go (push-cases xs x i k a) (push-cases xs x j k b
     go (inl p) (inr q) = absurd (n (subst (λ z. Member z xs) q.1 (get-member xs i k p)))
     go (inr p) (inl q) = absurd (n (subst (λ z. Member z xs) p.1 (get-member xs j k q)))
     go (inr p) (inr q) = p.0 ∙ sym q.0
-
-pub set-cases : {A : Type 0} (xs : List A) (k : ℕ) (x : A) (j : ℕ) (y : A) → k < length xs → slice_get (slice_set xs k x) j ≡ Some y → ((j ≡ k) × (y ≡ x)) ⊎ ((j ≢ k) × (slice_get xs j ≡ Some y))
-set-cases {A} xs k x j y b h = go (cases_eq j k)
-  where
-    go : (j ≡ k) ⊎ (j ≢ k) → ((j ≡ k) × (y ≡ x)) ⊎ ((j ≢ k) × (slice_get xs j ≡ Some y))
-    go (inl e) = let s : slice_get (slice_set xs k x) j ≡ Some x = ap (slice_get (slice_set xs k x)) e ∙ get-set_same xs k x b in inl (e, cc)
-    go (inr n) = inr (n, sym (get-set_other xs k j x n) ∙ h)
 
 -- ## ports
 
@@ -103,16 +87,8 @@ source-once g v k j i l w a b = port-once (λ e. e.sources) g.edges (Once-right 
 pub source-at : (g : PlainGraph) (k i : ℕ) (e : Edge) → slice_get g.edges k ≡ Some e → source_at g k i ≡ slice_get e.sources i
 source-at g k i e q = ap (option_and_then (λ e. slice_get e.sources i)) q
 
--- ## orders that grow
-
-pub Grows-refl : (xs : List ℕ) → xs ≡ xs ++ [] → Grows xs xs
-Grows-refl xs e = ([], e)
-
 pub Grows-trans : (xs ys zs : List ℕ) → Grows xs ys → Grows ys zs → Grows xs zs
 Grows-trans xs ys zs a b = (a.0 ++ b.0, b.1 ∙ ap (λ l. l ++ b.0) a.1 ∙ append_assoc xs a.0 b.0)
-
-pub Grows-get : (xs ys : List ℕ) → Grows xs ys → (i k : ℕ) → slice_get xs i ≡ Some k → slice_get ys i ≡ Some k
-Grows-get xs ys g i k h = ap (λ l. slice_get l i) g.1 ∙ get-append_left xs g.0 i (slice_get-length xs i k h) ∙ h
 
 pub live-more : (g : PlainGraph) (xs ys : List ℕ) (w : ℕ) → is_among (live_behind g xs) w ≡ true → is_among (live_behind g (xs ++ ys)) w ≡ true
 live-more g xs ys w h = member-among (live_behind g (xs ++ ys)) w (go (member-split g.inputs (targets_of (permuted g.edges xs)) w (among-member (live_behind g xs) w h)))
@@ -303,11 +279,6 @@ waiting-done g live waits order w k i place t r = record {
         let f : take j (order ++ k ∷ []) ≡ order = ap (λ n. take n (order ++ k ∷ [])) h.0 ∙ take-append-le (length order) order (k ∷ []) (omega arith) ∙ take_all (length order) order (omega arith) in
         subst (λ o. is_ready (live_behind g o) e ≡ true) (sym f) (ready e (ap (slice_get g.edges) (sym h.1) ∙ q))
 
--- ## the start
-
-pub sourceless-start : (g : PlainGraph) → IsSourceless g 0 []
-sourceless-start g = record { all = λ k h s. absurd (omega arith); only = λ k c. absurd (Contains-member [] k c); once = λ i j k a b. cc }
-
 pub sourceless-push : (g : PlainGraph) (n : ℕ) (order : List ℕ) → IsSourceless g n order → source_at g n 0 ≡ None → IsSourceless g (n + 1) (order ++ n ∷ [])
 sourceless-push g n order t s = record {
   all = λ k h r. all k r (cases_lt k n) h;
@@ -416,10 +387,6 @@ sources-within g v k n e q size = All-from_get_members {P = λ w. w < n} e.sourc
 pub source-place : (g : PlainGraph) (k i w : ℕ) (e : Edge) → slice_get g.edges k ≡ Some e → source_at g k i ≡ Some w → i < length e.sources
 source-place g k i w e q s = slice_get-length e.sources i w (sym (source-at g k i e q) ∙ s)
 
-pub get-end : {A : Type 0} (xs : List A) → slice_get xs (length xs) ≡ None
-get-end [] = refl
-get-end (x ∷ xs) = get-end xs
-
 -- ## the step, as the code makes it
 
 pub moved : (g : PlainGraph) (live after : List Bool) (waits order : List ℕ) (w w' k i m place : ℕ) (e : Edge) → IsValid g → IsWaiting g live waits order → is_among (live_behind g order) w ≡ true → source_at g k i ≡ Some w
@@ -462,34 +429,9 @@ live-one-more g live wires i w b q r a j u h = go (push-cases (take i wires) w j
     go (inl k) = lit live w u r (a j u k)
     go (inr k) = ap (slice_get (slice_set live w true)) k.1 ∙ get-set_same live w true r
 
-pub empty-none : {A : Type 0} (xs : List A) (b : Bool) → b ≡ eqb (length xs) 0 → b ≡ true → slice_get xs 0 ≡ None
-empty-none [] b e t = refl
-empty-none (x ∷ xs) b e t = let n : eqb (suc (length xs)) 0 ≡ false = ne_eqb (suc (length xs)) 0 (λ q. omega arith) in absurd (cc)
-
-pub full-some : {A : Type 0} (xs : List A) (b : Bool) → b ≡ eqb (length xs) 0 → b ≡ false → (x : A) × (slice_get xs 0 ≡ Some x)
-full-some [] b e t = let n : eqb 0 0 ≡ true = eq-eqb 0 0 refl in absurd (cc)
-full-some (x ∷ xs) b e t = (x, refl)
-
-pub all-same : {A : Type 0} (n : ℕ) (x : A) (xs : List A) → xs ≡ replicate n x → (i : ℕ) (y : A) → slice_get xs i ≡ Some y → y ≡ x
-all-same {A} n x xs e i y h = go n i (ap (λ l. slice_get l i) (sym e) ∙ h)
-  where
-    go : (n i : ℕ) → slice_get (replicate n x) i ≡ Some y → y ≡ x
-    go zero i h = cc
-    go (suc n) zero h = cc
-    go (suc n) (suc i) h = go n i h
-
 pub removal-start : (g : PlainGraph) (live : List Bool) (waits order : List ℕ) (n m : ℕ) → IsValid g → n ≡ length g.wires → m ≡ length g.edges → live ≡ replicate n false → waits ≡ replicate m 0 → IsSourceless g (length g.edges) order → IsWaiting g live waits order
 removal-start g live waits order n m v ln lm l w t = waiting-start g live waits order
     (ap length l ∙ length-replicate n false ∙ ln) (ap length w ∙ length-replicate m 0 ∙ lm) (λ u b h. all-same n false live l u b h) (λ k x h. all-same m 0 waits w k x h) t (source-within g v)
-
-pub permuted-member : {A : Type 0} (xs : List A) (ks : List ℕ) (k : ℕ) (x : A) → Member k ks → slice_get xs k ≡ Some x → Member x (permuted xs ks)
-permuted-member xs [] k x m q = absurd m
-permuted-member xs (j ∷ ks) k x (inl e) q = subst (λ o. Member x (cons_option o (permuted xs ks))) (sym (ap (slice_get xs) e ∙ q)) (inl refl)
-permuted-member {A} xs (j ∷ ks) k x (inr n) q = on (slice_get xs j) (permuted-member xs ks k x n q)
-  where
-    on : (o : Option A) → Member x (permuted xs ks) → Member x (cons_option o (permuted xs ks))
-    on None h = h
-    on (Some y) h = inr h
 
 pub inputs-made : (g : PlainGraph) (order : List ℕ) → All (λ w. is_among (live_behind g order) w ≡ true) g.inputs
 inputs-made g order = All-from_get_members {P = λ w. is_among (live_behind g order) w ≡ true} g.inputs (λ w m. member-among (live_behind g order) w (member-left g.inputs (targets_of (permuted g.edges order)) w m))
@@ -499,14 +441,11 @@ inputs-wires g v = All-from_get_members {P = λ w. w < length g.wires} g.inputs 
 
 pub targets-made : (g : PlainGraph) (order : List ℕ) (j k : ℕ) (e : Edge) → slice_get order j ≡ Some k → slice_get g.edges k ≡ Some e → All (λ w. is_among (live_behind g order) w ≡ true) e.targets
 targets-made g order j k e h q = All-from_get_members {P = λ w. is_among (live_behind g order) w ≡ true} e.targets (λ w m. member-among (live_behind g order) w
-    (member-right g.inputs (targets_of (permuted g.edges order)) w (member-flat (λ e. e.targets) (permuted g.edges order) e w (permuted-member g.edges order k e (get-member order j k h) q) m)))
+    (member-right g.inputs (targets_of (permuted g.edges order)) w (member-flat (λ e. e.targets) (permuted g.edges order) e w (member-permuted g.edges order k e (get-member order j k h) q) m)))
 
 pub targets-wires : (g : PlainGraph) → IsValid g → (k : ℕ) (e : Edge) → slice_get g.edges k ≡ Some e → All (λ w. w < length g.wires) e.targets
 targets-wires g v k e q = All-from_get_members {P = λ w. w < length g.wires} e.targets (λ w m. member-below (length g.wires) w (Rearr-member w (Rearr-sym (permutation-Rearr (length g.wires) _ v.producers))
     (member-right g.inputs (targets_of g.edges) w (member-flat (λ e. e.targets) g.edges e w (get-member g.edges k e q) m))))
-
-pub order-edge : (g : PlainGraph) (order : List ℕ) → All (λ k. k < length g.edges) order → (j k : ℕ) → slice_get order j ≡ Some k → k < length g.edges
-order-edge g order a j k h = subst (λ b. b < length g.edges) (index-get order j k h) (a j 0 (slice_get-length order j k h))
 
 -- ## the loop
 

@@ -3,8 +3,9 @@ use Rattle.std.proofs.Common.{ℕ, zero, suc, ◌+◌, ◌-◌, ◌<◌, ◌≡�
 use Rattle.chyp_term.specs.Positions.{is_among}
 use Rattle.chyp_graph.specs.PlainGraph.{Edge, PlainGraph, renamed, targets_of}
 use Rattle.chyp_graph.specs.Validity.{IsValid, is_ready, taken_within}
-use Rattle.chyp_graph.proofs.Members.{Member, Rearr-member, all-members, among-member, below-member, filter-all, filter-member, flat-member, map-member, member-among, member-filter, member-flat, member-left, member-map, member-right, member-split, members-all}
-use Rattle.chyp_graph.proofs.Rearrangement.{permutation-Rearr}
+use Rattle.chyp_term.proofs.Members.{Member, Rearr-member, all-members, among-member, below-member, filter-all, filter-member, flat-member, map-member, member-among, member-filter, member-flat}
+use Rattle.chyp_term.proofs.Members.{member-left, member-map, member-right, member-split, members-all}
+use Rattle.chyp_term.proofs.Rearrangement.{permutation-Rearr}
 
 -- the wires that are live after n rounds
 abbrev pub live_after : PlainGraph → ℕ → List ℕ

@@ -11,8 +11,8 @@ use Rattle.chyp_graph.specs.PlainGraph.{PlainGraph}
 use Rattle.chyp_graph.specs.Validity.{IsValid}
 use Rattle.chyp_graph.proofs.Drafting.{follow_beside, follow_then, place_beside, place_then}
 use Rattle.chyp_graph.proofs.Leaves.{followed-live, followed-size, length-part, parts, placed-live, placed-size}
-use Rattle.chyp_graph.proofs.Members.{Member, Rearr-member, member-below, member-left}
-use Rattle.chyp_graph.proofs.Rearrangement.{Rearr-sym, permutation-Rearr}
+use Rattle.chyp_term.proofs.Members.{Member, Rearr-member, member-below, member-left}
+use Rattle.chyp_term.proofs.Rearrangement.{Rearr-sym, permutation-Rearr}
 use Rattle.chyp_graph.proofs.Validity.{length-inputs, length-middle, valid}
 
 -- the wires live from a place on that a term takes

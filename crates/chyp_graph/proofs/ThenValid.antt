@@ -1,22 +1,23 @@
 -- g ; h is valid where g and h are, and g has as many outputs as h has inputs.
-use Rattle.std.proofs.Common.{ℕ, zero, suc, ◌+◌, ◌<◌, ◌≡◌, Bool, true, false, cond, List, [], ◌∷◌, ◌++◌, map, length, flat_map, slice_index, ◌⊎◌, inl, inr, refl, sym, ◌∙◌, ap, ap₂, subst, arith, append_assoc, append-nil, length-append, zero-add}
+use Rattle.std.proofs.Common.{[], ℕ, zero, suc, ◌+◌, ◌≡◌, Bool, true, false, cond, List, ◌∷◌, ◌++◌, map, length, flat_map, slice_index, ◌⊎◌, inl, inr, refl, sym, ◌∙◌, ap, ap₂, subst, arith}
+use Rattle.std.proofs.Common.{append_assoc, append-nil, length-append, zero-add}
 use Rattle.std.proofs.lemmas.List.{map-append, length-map}
 use Rattle.std.proofs.lemmas.List.Elements.{filter-append}
 use Rattle.std.proofs.lemmas.Bool.{cases_Bool}
 use Rattle.chyp_term.specs.Perm.{count_from, permuted}
 use Rattle.chyp_term.specs.Positions.{is_apart}
 use Rattle.chyp_term.proofs.Permuted.{length-permuted}
-use Rattle.chyp_term.proofs.Positions.{Under-filter, apart-none, count_from-append, count_from-push, upto, upto-suc}
+use Rattle.chyp_term.proofs.Positions.{Under-filter, apart-none, count_from-append, upto, upto-suc, map-id}
+use Rattle.chyp_term.proofs.Counting.{count_from-push}
+use Rattle.chyp_term.proofs.Members.{Member, Rearr-member, filter-all, filter-none, map-member, member-below, member-left, member-map, member-not_apart, member-right, member-split, not_member-apart}
+use Rattle.chyp_term.proofs.Members.{parts-apart, place-first}
+use Rattle.chyp_term.proofs.Rearrangement.{Rearr, Rearr-append, Rearr-comm, Rearr-filter, Rearr-left, Rearr-map, Rearr-permutation, Rearr-right, Rearr-same, Rearr-sym, flat-append, flat-map, join}
+use Rattle.chyp_term.proofs.Rearrangement.{permutation-Rearr}
+use Rattle.chyp_term.proofs.Apart.{map-by_index}
 use Rattle.chyp_graph.specs.Composition.{inner, inner_wires, joined, joined_at, then_graph}
 use Rattle.chyp_graph.specs.PlainGraph.{Edge, PlainGraph, renamed, sources_of, targets_of}
 use Rattle.chyp_graph.specs.Validity.{IsValid, is_ready}
-use Rattle.chyp_graph.proofs.Members.{Member, Rearr-member, filter-all, filter-none, map-member, member-below, member-left, member-map, member-not_apart, member-right, member-split, not_member-apart, parts-apart, place-first}
-use Rattle.chyp_graph.proofs.Rearrangement.{Rearr, Rearr-append, Rearr-comm, Rearr-filter, Rearr-left, Rearr-map, Rearr-permutation, Rearr-right, Rearr-same, Rearr-sym, flat-append, flat-map, join, permutation-Rearr}
 use Rattle.chyp_graph.proofs.Rounds.{IsTaken, all-live, all-taken, carry, edge-taken, live_after, ready-more, ready-renamed}
-
-pub map-id : (xs : List ℕ) → map (λ x. x) xs ≡ xs
-map-id [] = refl
-map-id (x ∷ xs) = ap (λ r. x ∷ r) (map-id xs)
 
 pub renamed-id : (e : Edge) → renamed (λ w. w) e ≡ e
 renamed-id e = ap₂ (λ a b. record { name = e.name; sources = a; targets = b }) (map-id e.sources) (map-id e.targets)
@@ -31,12 +32,6 @@ targets-joined f es fs = flat-append (λ e. e.targets) es (map (renamed f) fs) �
 
 pub sources-joined : (f : ℕ → ℕ) (es fs : List Edge) → sources_of (es ++ map (renamed f) fs) ≡ sources_of es ++ map f (sources_of fs)
 sources-joined f es fs = flat-append (λ e. e.sources) es (map (renamed f) fs) ∙ ap (λ r. sources_of es ++ r) (flat-map (λ e. e.sources) (renamed f) fs ∙ map-flat f (λ e. e.sources) fs)
-
-pub map-by_index : (h : ℕ → ℕ) (xs ys : List ℕ) → length xs ≡ length ys → ((i : ℕ) → i < length xs → h (slice_index xs i) ≡ slice_index ys i) → map h xs ≡ ys
-map-by_index h [] [] q f = refl
-map-by_index h [] (y ∷ ys) q f = absurd (omega arith)
-map-by_index h (x ∷ xs) [] q f = absurd (omega arith)
-map-by_index h (x ∷ xs) (y ∷ ys) q f = ap₂ (λ a b. a ∷ b) (f 0 (omega arith)) (map-by_index h xs ys (omega arith) (λ i l. f (suc i) (omega arith)))
 
 -- what is n more than the count of those that pass below it counts on from n
 pub map-inner : (p : ℕ → Bool) (n m : ℕ) (f : ℕ → ℕ) → ((w : ℕ) → p w ≡ true → f w ≡ n + length (upto p w)) → map f (upto p m) ≡ count_from n (length (upto p m))

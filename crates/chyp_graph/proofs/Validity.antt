@@ -14,8 +14,8 @@ use Rattle.chyp_graph.specs.GraphOf.{graph_of}
 use Rattle.chyp_graph.specs.PlainGraph.{Edge}
 use Rattle.chyp_graph.specs.Validity.{IsValid, is_ready}
 use Rattle.chyp_graph.proofs.BesideValid.{beside_valid}
-use Rattle.chyp_graph.proofs.Members.{Member, all-members, member-among, member-left}
-use Rattle.chyp_graph.proofs.Rearrangement.{Rearr-comm, Rearr-permutation, Rearr-same, join}
+use Rattle.chyp_term.proofs.Members.{Member, all-members, member-among, member-left}
+use Rattle.chyp_term.proofs.Rearrangement.{Rearr-comm, Rearr-permutation, Rearr-same, join}
 use Rattle.chyp_graph.proofs.Rounds.{IsTaken, all-taken}
 use Rattle.chyp_graph.proofs.ThenValid.{then_valid}
 

@@ -9,9 +9,3 @@ pub mod Draft
 pub mod Joining
 pub mod Rounds
 pub mod Removal
-pub mod Component
-pub mod Sweep
-pub mod Pattern
-pub mod Occurrence
-pub mod Occurrences
-pub mod Replacement

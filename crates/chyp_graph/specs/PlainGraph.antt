@@ -28,6 +28,13 @@ sources_of es = flat_map (λ e. e.sources) es
 abbrev pub targets_of : List Edge → List ℕ
 targets_of es = flat_map (λ e. e.targets) es
 
+-- the type of an edge, read off its ports: the sorts of its sources and those of its targets, in order
+abbrev pub source_sorts : PlainGraph → Edge → List Sort
+source_sorts g e = permuted g.wires e.sources
+
+abbrev pub target_sorts : PlainGraph → Edge → List Sort
+target_sorts g e = permuted g.wires e.targets
+
 -- the sorts of the inputs, in order
 abbrev pub input_sorts : PlainGraph → List Sort
 input_sorts g = permuted g.wires g.inputs

@@ -193,8 +193,9 @@ impl Graph {
         rounds_in(alloc, self, &order)
     }
 
-    /// Every graph is valid, and not too large.
-    pub(crate) fn valid(&self)
+    /// Every graph is valid, with fewer than 2^31 edges and as many wires: a call brings a proof this
+    /// fact, and does nothing when it runs.
+    pub fn valid(&self)
         ensures valid { IsValid self.now }
         ensures few_edges { length self.now.edges < 2 ^ 31 }
         ensures few_wires { length self.now.wires < 2 ^ 31 }
@@ -203,7 +204,7 @@ impl Graph {
     }
 
     /// The allocator that it was made with.
-    pub(crate) fn allocator(&self) -> Global {
+    pub fn allocator(&self) -> Global {
         *self.wires.allocator()
     }
 

@@ -8,15 +8,11 @@
 //! [`Graph::edge`], [`Graph::wire_sort`], [`Graph::inputs`], [`Graph::outputs`], the counts, and
 //! [`Graph::producer`] and [`Graph::consumer`], which answer None exactly for an input and for an
 //! output. [`Graph::rounds`] gives the round in which each edge is taken away, where each round takes
-//! away the edges whose sources are live by then, in time and memory in proportion to the graph. A
-//! [`Pattern`] is a graph with its connected components, found in time and memory in proportion to it:
-//! [`Pattern::anchor`] is the first edge of each, or the one wire of a component without edges. The
+//! away the edges whose sources are live by then, in time and memory in proportion to the graph. The
 //! definitions of validity, of the graph of a term and of isomorphism stand in `specs/`, and `proofs/`
 //! shows that the graph of a typed term is valid.
 #![tactic(auto)]
 
-mod anchor;
-mod components;
 mod dates;
 mod draft;
 mod edge_id;
@@ -25,23 +21,17 @@ mod edge_part;
 mod edge_parts;
 mod edge_view;
 mod graph;
-mod occurrence;
-mod pattern;
 mod port_table;
 mod removal;
 mod renumber;
-mod sweep;
 mod wire_id;
 mod wire_ids;
 
-pub use anchor::Anchor;
 pub use edge_id::EdgeId;
 pub use edge_ids::EdgeIds;
 pub use edge_part::EdgePart;
 pub use edge_parts::EdgeParts;
 pub use edge_view::EdgeView;
 pub use graph::Graph;
-pub use occurrence::Occurrence;
-pub use pattern::Pattern;
 pub use wire_id::WireId;
 pub use wire_ids::WireIds;

@@ -1,7 +1,8 @@
 // Components of graphs, and their placements.
 use crate::diagrams::graph;
-use chyp_graph::{Anchor, EdgeId, Pattern, WireId};
+use chyp_graph::{EdgeId, WireId};
 use chyp_match::placements;
+use chyp_pattern::{Anchor, Pattern};
 use std::alloc::Global;
 use std::test::Fail;
 

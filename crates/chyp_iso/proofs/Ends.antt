@@ -1,15 +1,16 @@
 -- The interfaces of two graphs, and what hangs on them.
-use Rattle.std.proofs.Common.{ℕ, zero, suc, ◌≤◌, ◌≡◌, Bool, true, false, List, [], ◌∷◌, arith, take, length, map, Option, Some, slice_get, ◌⊎◌, inl, inr, sym, ◌∙◌, ap, subst}
+use Rattle.std.proofs.Common.{[], ℕ, ◌≤◌, ◌≡◌, Bool, true, false, List, arith, take, length, map, Option, Some, slice_get, ◌⊎◌, inl, inr, sym, ◌∙◌, ap, subst}
 use Rattle.std.specs.Bool.{MatchBool}
 use Rattle.std.proofs.lemmas.List.{length-take}
 use Rattle.chyp_term.proofs.Closure.{get-index, index-get}
+use Rattle.chyp_term.proofs.Slices.{get-take}
+use Rattle.chyp_term.proofs.Permuted.{map-get}
 use Rattle.chyp_graph.specs.PlainGraph.{PlainGraph}
 use Rattle.chyp_graph.specs.Isomorphism.{Isomorphic}
 use Rattle.chyp_graph.specs.Validity.{IsValid}
-use Rattle.chyp_graph.proofs.Ports.{get-take}
-use Rattle.chyp_iso.specs.declared.pair.Pair.{Pair}
+use Rattle.chyp_pairs.specs.declared.pair.Pair.{Pair}
 use Rattle.chyp_iso.specs.Pair.{MapsPair, wire_pairs}
-use Rattle.chyp_iso.specs.Pairs.{Has, IsMatching, Pairs, edge_there, wire_there}
+use Rattle.chyp_pairs.specs.Pairs.{Has, IsMatching, Pairs, edge_there, wire_there}
 use Rattle.chyp_iso.specs.Following.{Fits, Includes, IsComplete, Leads, Maps, Refutes}
 use Rattle.chyp_iso.specs.IsIsomorphism.{IsIsomorphism}
 use Rattle.chyp_iso.specs.Scratch.{AreImages}
@@ -17,7 +18,7 @@ use Rattle.chyp_iso.specs.Search.{AreKnown, HaveSameCounts, HaveSameEnds, IsPair
 use Rattle.chyp_iso.proofs.Finishing.{is-isomorphism}
 use Rattle.chyp_iso.proofs.Followed.{Leads-has, Leads-maps, Leads-seeds, Leads-trans, Refutes-after}
 use Rattle.chyp_iso.proofs.Lists.{pairs-place}
-use Rattle.chyp_iso.proofs.PairLists.{has-left, has-right, has-split}
+use Rattle.chyp_pairs.proofs.PairLists.{has-left, has-right, has-split}
 use Rattle.chyp_iso.proofs.Searching.{part-leads}
 
 pub first-leads : (g h : PlainGraph) (s t : Pairs) → Leads g h (wire_pairs g.inputs h.inputs) s t → Leads g h (end_pairs g h) s t
@@ -39,17 +40,10 @@ both-answer g h s t u true v l i m r = λ p k. go p (has-split (wire_pairs g.inp
 both-answer g h s t u false v l i m r =
     Refutes-after g h (end_pairs g h) (wire_pairs g.outputs h.outputs) s t v (first-leads g h s t l) (λ iso x n p k. n p (has-right (wire_pairs g.inputs h.inputs) (wire_pairs g.outputs h.outputs) p k)) r
 
--- ## isomorphisms make the pairs of the ends
-
-get-map : (f : ℕ → ℕ) (xs : List ℕ) (i x : ℕ) → slice_get xs i ≡ Some x → slice_get (map f xs) i ≡ Some (f x)
-get-map f [] i x e = cc
-get-map f (y ∷ xs) zero x e = let q : y ≡ x = cc in ap (λ z. Some (f z)) q
-get-map f (y ∷ xs) (suc i) x e = get-map f xs i x e
-
 list-maps : (g h : PlainGraph) (iso : Isomorphic g h) (vs ws : List ℕ) → ws ≡ map iso.wire vs → Maps iso (wire_pairs vs ws)
 list-maps g h iso vs ws e p k =
     let r = pairs-place vs ws p k in
-    let a : ◌≡◌ {A = Option ℕ} (Some (iso.wire r.1)) (Some r.2) = sym (get-map iso.wire vs r.0 r.1 r.3) ∙ ap (λ l. slice_get l r.0) (sym e) ∙ r.4 in
+    let a : ◌≡◌ {A = Option ℕ} (Some (iso.wire r.1)) (Some r.2) = sym (map-get iso.wire vs r.0 r.1 r.3) ∙ ap (λ l. slice_get l r.0) (sym e) ∙ r.4 in
     let b : iso.wire r.1 ≡ r.2 = cc in
     subst (MapsPair iso) r.5 b
 

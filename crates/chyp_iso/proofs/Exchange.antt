@@ -174,10 +174,6 @@ is-some : (o : Option ℕ) → is_some o ≡ true → (x : ℕ) × (o ≡ Some x
 is-some None e = cc
 is-some (Some x) e = (x, refl)
 
-none-is : (o : Option ℕ) → is_some o ≡ false → o ≡ None
-none-is None e = refl
-none-is (Some x) e = cc
-
 or-left : (a b : Bool) → a ≡ true → (a || b) ≡ true
 or-left true b e = refl
 or-left false b e = cc

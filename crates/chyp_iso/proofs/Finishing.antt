@@ -1,5 +1,6 @@
 -- From pairs of all items to an isomorphism, and from its lists to its maps.
-use Rattle.std.proofs.Common.{ℕ, zero, suc, ◌+◌, ◌<◌, ◌≤◌, ◌≡◌, true, false, List, length, map, Option, Some, slice_get, slice_index, ◌⊎◌, inl, inr, sym, ◌∙◌, ap, subst, arith, eqb, ne_eqb, ◌≢◌}
+use Rattle.std.proofs.Common.{ℕ, zero, suc, ◌+◌, ◌<◌, ◌≤◌, ◌≡◌, true, false, List, length, map, Option, Some, slice_get, slice_index, ◌⊎◌, inl, inr, sym, ◌∙◌, ap, subst, arith, eqb}
+use Rattle.std.proofs.Common.{ne_eqb, ◌≢◌}
 use Rattle.std.specs.Bool.{MatchBool}
 use Rattle.std.specs.Option.{option_and_then}
 use Rattle.std.proofs.lemmas.Bool.Decides.{eqb_tells}
@@ -13,18 +14,18 @@ use Rattle.chyp_term.proofs.Permuted.{found, length-count_from}
 use Rattle.chyp_term.proofs.Positions.{slice_get-length}
 use Rattle.chyp_graph.specs.PlainGraph.{PlainGraph, targets_of}
 use Rattle.chyp_graph.specs.Isomorphism.{IsBijection, Isomorphic}
-use Rattle.chyp_graph.proofs.Members.{Member, Rearr-member, below-member, flat-member, member-get, member-split}
-use Rattle.chyp_graph.proofs.Rearrangement.{permutation-Rearr}
-use Rattle.chyp_iso.specs.declared.pair.Pair.TheVariants.{Wires, Edges}
+use Rattle.chyp_term.proofs.Members.{Member, Rearr-member, below-member, flat-member, member-get, member-split}
+use Rattle.chyp_term.proofs.Rearrangement.{permutation-Rearr}
+use Rattle.chyp_pairs.specs.declared.pair.Pair.TheVariants.{Wires, Edges}
 use Rattle.chyp_iso.specs.Pair.{EdgesFit, WiresFit, wire_pairs}
-use Rattle.chyp_iso.specs.Pairs.{Has, Pairs, edge_there, wire_there}
+use Rattle.chyp_pairs.specs.Pairs.{Has, Pairs, edge_there, wire_there}
 use Rattle.chyp_iso.specs.Port.{IsPortAt, the_targets}
 use Rattle.chyp_iso.specs.Following.{IsFollowedDown}
 use Rattle.chyp_iso.specs.IsIsomorphism.{IsIsomorphism}
 use Rattle.chyp_iso.specs.Search.{HaveSameCounts, IsWhole}
 use Rattle.chyp_iso.specs.Scratch.{AreImages}
 use Rattle.chyp_iso.proofs.Lists.{pairs-get}
-use Rattle.chyp_iso.proofs.PairLists.{has-left}
+use Rattle.chyp_pairs.proofs.PairLists.{has-left}
 use Rattle.chyp_iso.proofs.Searching.{edge-renamed, fit-shape, input-images, output-images}
 use Rattle.chyp_iso.proofs.Steps.{edges-back, edges-there, wires-back, wires-there}
 use Rattle.chyp_iso.proofs.Switch.{pick}

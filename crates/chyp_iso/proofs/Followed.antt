@@ -1,26 +1,18 @@
 -- What follows from pairs stays so, and holds of each isomorphism.
-use Rattle.std.proofs.Common.{ℕ, zero, suc, ◌≡◌, Bool, true, eqb, List, [], ◌∷◌, ◌++◌, map, Option, Some, slice_get, option_map, ◌⊎◌, inl, inr, refl, sym, ◌∙◌, ap, subst, append_assoc, append-nil, eq-eqb, eqb-true}
+use Rattle.std.proofs.Common.{[], ℕ, ◌≡◌, Bool, true, eqb, List, ◌∷◌, ◌++◌, Option, Some, slice_get, option_map, ◌⊎◌, inl, inr, refl, sym, ◌∙◌, ap, subst, append_assoc, eq-eqb, eqb-true}
 use Rattle.std.specs.Option.{option_and_then}
+use Rattle.chyp_term.proofs.Permuted.{map-get}
 use Rattle.chyp_graph.specs.PlainGraph.{Edge, PlainGraph, renamed}
 use Rattle.chyp_graph.specs.Isomorphism.{Isomorphic}
 use Rattle.chyp_graph.specs.Validity.{IsValid}
-use Rattle.chyp_iso.specs.declared.pair.Pair.{Pair}
-use Rattle.chyp_iso.specs.declared.pair.Pair.TheVariants.{Wires, Edges}
+use Rattle.chyp_pairs.specs.declared.pair.Pair.{Pair}
+use Rattle.chyp_pairs.specs.declared.pair.Pair.TheVariants.{Wires, Edges}
 use Rattle.chyp_iso.specs.Pair.{MapsPair, PairFits}
-use Rattle.chyp_iso.specs.Pairs.{Has, Pairs}
+use Rattle.chyp_pairs.specs.Pairs.{Has, Pairs}
 use Rattle.chyp_iso.specs.Port.{IsPortAt, Side, ports_on, the_sources, the_targets}
 use Rattle.chyp_iso.specs.Following.{Fits, Includes, IsClosedUnder, IsFollowed, IsFollowedDown, IsFollowedUp, Leads, Maps, Passes, Refutes}
-use Rattle.chyp_iso.proofs.PairLists.{has-left, has-split}
+use Rattle.chyp_pairs.proofs.PairLists.{has-left, has-split}
 use Rattle.chyp_iso.proofs.Ports.{below-edge, once, port-edge}
-
-pub Leads-same : (g h : PlainGraph) (seeds : List Pair) (s : Pairs) → Fits g h s → Leads g h seeds s s
-Leads-same g h seeds s f = record {
-  edges = refl;
-  wires = refl;
-  more = ([], sym (append-nil s.pairs));
-  fits = f;
-  follows = λ test c p q. p;
-}
 
 pub Leads-trans : (g h : PlainGraph) (seeds : List Pair) (s t u : Pairs) → Leads g h seeds s t → Leads g h seeds t u → Leads g h seeds s u
 Leads-trans g h seeds s t u a b = record {
@@ -74,16 +66,9 @@ pub maps-one : {g h : PlainGraph} (iso : Isomorphic g h) (p : Pair) → MapsPair
 maps-one iso p e q (inl r) = subst (MapsPair iso) r e
 maps-one iso p e q (inr r) = absurd r
 
--- ## isomorphisms keep ports
-
-get-map : (f : ℕ → ℕ) (xs : List ℕ) (i x : ℕ) → slice_get xs i ≡ Some x → slice_get (map f xs) i ≡ Some (f x)
-get-map f [] i x e = cc
-get-map f (y ∷ xs) zero x e = let q : y ≡ x = cc in ap (λ z. Some (f z)) q
-get-map f (y ∷ xs) (suc i) x e = get-map f xs i x e
-
 ports-renamed : (f : ℕ → ℕ) (side : Side) (e : Edge) (i v : ℕ) → slice_get (ports_on side e) i ≡ Some v → slice_get (ports_on side (renamed f e)) i ≡ Some (f v)
-ports-renamed f the_sources e i v h = get-map f e.sources i v h
-ports-renamed f the_targets e i v h = get-map f e.targets i v h
+ports-renamed f the_sources e i v h = map-get f e.sources i v h
+ports-renamed f the_targets e i v h = map-get f e.targets i v h
 
 pub iso-port : (g h : PlainGraph) (iso : Isomorphic g h) (side : Side) (k i v : ℕ) → IsPortAt g side k i v → IsPortAt h side (iso.edge k) i (iso.wire v)
 iso-port g h iso side k i v p =

@@ -1,5 +1,3 @@
-pub mod PairLists
-pub mod Tables
 pub mod Ports
 pub mod Followed
 pub mod Steps

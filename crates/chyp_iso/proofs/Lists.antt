@@ -7,16 +7,16 @@ use Rattle.chyp_term.proofs.Positions.{slice_get-length}
 use Rattle.chyp_graph.specs.PlainGraph.{Edge, PlainGraph}
 use Rattle.chyp_graph.specs.Isomorphism.{Isomorphic}
 use Rattle.chyp_graph.specs.Validity.{IsValid}
-use Rattle.chyp_graph.proofs.Members.{member-get}
-use Rattle.chyp_graph.proofs.Ports.{All-members}
-use Rattle.chyp_iso.specs.declared.pair.Pair.{Pair}
-use Rattle.chyp_iso.specs.declared.pair.Pair.TheVariants.{Wires, Edges}
+use Rattle.chyp_term.proofs.Members.{member-get, All-members}
+use Rattle.chyp_pairs.specs.declared.pair.Pair.{Pair}
+use Rattle.chyp_pairs.specs.declared.pair.Pair.TheVariants.{Wires, Edges}
 use Rattle.chyp_iso.specs.Pair.{AreAlike, EdgesFit, wire_pairs}
-use Rattle.chyp_iso.specs.Pairs.{Has, Pairs}
+use Rattle.chyp_pairs.specs.Pairs.{Has, Pairs}
 use Rattle.chyp_iso.specs.Port.{Side, ports_on, the_sources, the_targets}
 use Rattle.chyp_iso.specs.Following.{AreFollowed, Fits, Includes, IsClosedUnder, IsComplete, IsFollowed, IsFollowedDown, IsFollowedUp, Leads, Maps, Passes, Refutes}
-use Rattle.chyp_iso.proofs.PairLists.{has-get}
-use Rattle.chyp_iso.proofs.Followed.{Leads-has, Leads-seeds, Leads-trans, Refutes-after, down-more, followed-more, made-closed, made-maps, made_by, maps-made, maps-one, passes-none, passes-one, up-more}
+use Rattle.chyp_pairs.proofs.PairLists.{has-get}
+use Rattle.chyp_iso.proofs.Followed.{Leads-has, Leads-seeds, Leads-trans, Refutes-after, down-more, followed-more, made-closed, made-maps, made_by, maps-made, maps-one, passes-none, passes-one}
+use Rattle.chyp_iso.proofs.Followed.{up-more}
 use Rattle.chyp_iso.proofs.Ports.{port-is, wire-below}
 
 -- the wires at one place are a pair

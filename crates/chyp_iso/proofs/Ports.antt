@@ -7,8 +7,8 @@ use Rattle.chyp_term.proofs.Permuted.{get-append_left, get-append_right}
 use Rattle.chyp_term.proofs.Positions.{slice_get-length}
 use Rattle.chyp_graph.specs.PlainGraph.{Edge, PlainGraph}
 use Rattle.chyp_graph.specs.Validity.{IsValid}
-use Rattle.chyp_graph.proofs.Members.{Member, get-member, member-below, member-flat, member-right, parts-apart, Rearr-member}
-use Rattle.chyp_graph.proofs.Rearrangement.{Rearr-sym, permutation-Rearr}
+use Rattle.chyp_term.proofs.Members.{Member, get-member, member-below, member-flat, member-right, parts-apart, Rearr-member}
+use Rattle.chyp_term.proofs.Rearrangement.{Rearr-sym, permutation-Rearr}
 use Rattle.chyp_iso.specs.Port.{IsPortAt, Side, port_at, ports_on, the_sources, the_targets}
 
 -- the i-th port of the edge k

@@ -1,22 +1,23 @@
 -- Parts without interface: trying, giving up and exchanging.
-use Rattle.std.proofs.Common.{ℕ, zero, suc, ◌+◌, ◌<◌, ◌≤◌, ◌≡◌, Bool, true, false, List, [], ◌∷◌, length, map, take, Option, Some, None, slice_get, option_map, ◌⊎◌, inl, inr, refl, sym, ◌∙◌, ap, ap₂, subst, arith}
+use Rattle.std.proofs.Common.{[], ℕ, zero, suc, ◌+◌, ◌<◌, ◌≤◌, ◌≡◌, Bool, true, false, List, ◌∷◌, length, map, Option, Some, None, slice_get, option_map, ◌⊎◌, inl, inr, refl, sym, ◌∙◌, ap}
+use Rattle.std.proofs.Common.{ap₂, subst, arith}
 use Rattle.std.specs.Bool.{MatchBool}
 use Rattle.std.specs.Option.{is_some}
 use Rattle.std.proofs.lemmas.Bool.{cases_lt}
 use Rattle.std.proofs.lemmas.List.{length-map}
-use Rattle.chyp_term.proofs.Permuted.{found, take-left}
+use Rattle.chyp_term.proofs.Permuted.{found}
 use Rattle.chyp_term.proofs.Positions.{slice_get-length}
 use Rattle.chyp_graph.specs.PlainGraph.{Edge, PlainGraph, renamed}
 use Rattle.chyp_graph.specs.Isomorphism.{Isomorphic}
 use Rattle.chyp_graph.specs.Validity.{IsValid}
-use Rattle.chyp_iso.specs.declared.pair.Pair.{Pair}
-use Rattle.chyp_iso.specs.declared.pair.Pair.TheVariants.{Wires, Edges}
+use Rattle.chyp_pairs.specs.declared.pair.Pair.{Pair}
+use Rattle.chyp_pairs.specs.declared.pair.Pair.TheVariants.{Wires, Edges}
 use Rattle.chyp_iso.specs.Pair.{AreAlike, EdgesFit, WiresFit, wire_pairs}
-use Rattle.chyp_iso.specs.Pairs.{Has, IsMatching, Pairs, edge_back, edge_there, image, wire_back, wire_there}
+use Rattle.chyp_pairs.specs.Pairs.{Has, IsMatching, Pairs, edge_back, edge_there, image, wire_back, wire_there}
 use Rattle.chyp_iso.specs.Port.{IsPortAt, Side, the_sources, the_targets}
 use Rattle.chyp_iso.specs.Following.{AreFollowed, Fits, Includes, IsComplete, IsFollowedDown, IsFollowedUp, Leads, Maps, Passes, Refutes}
 use Rattle.chyp_iso.specs.Search.{AreKnown, IsExtended, IsPairing}
-use Rattle.chyp_iso.proofs.PairLists.{get-has, has-left, has-right}
+use Rattle.chyp_pairs.proofs.PairLists.{get-has, has-left, has-right}
 use Rattle.chyp_iso.proofs.Exchange.{FullMap, IsFull, IsGrown, IsPart, PartMap, Pass, exchange, shape, shape_of, switched}
 use Rattle.chyp_iso.proofs.Followed.{Leads-has, Leads-seeds, Leads-trans, Refutes-after, followed-more, iso-port, maps-one, passes-none}
 use Rattle.chyp_iso.proofs.Lists.{get-more}
@@ -48,15 +49,6 @@ pub part-answer : (g h : PlainGraph) (e f : ℕ) (s t u : Pairs) (b : Bool) → 
     → MatchBool b (Has u.pairs (Edges e f) × IsPairing g h u) (Refutes g h (Edges e f ∷ []) s.pairs)
 part-answer g h e f s t u true w l k m r = (Leads-has g h [] t u m (Edges e f) k, part-pairing g h (Edges e f ∷ []) s u w (part-leads g h (Edges e f ∷ []) s t u l m) r.0 r.1)
 part-answer g h e f s t u false w l k m r = Refutes-after g h (Edges e f ∷ []) [] s t w.fits.second_valid l (λ iso x y p z. absurd z) r
-
--- what is taken away leaves what was there
-pub undone : (g h : PlainGraph) (seeds : List Pair) (s u : Pairs) (n : ℕ) → n ≡ length s.pairs → Leads g h seeds s u → record u { pairs = take n u.pairs } ≡ s
-undone g h seeds s u n q l =
-    let p : take n u.pairs ≡ s.pairs = ap (take n) l.more.1 ∙ take-left s.pairs l.more.0 n (sym q) in
-    same (take n u.pairs) s.pairs u.edges s.edges u.wires s.wires p l.edges l.wires
-  where
-    same : (ps qs : List Pair) (a b c d : ℕ) → ps ≡ qs → a ≡ b → c ≡ d → ◌≡◌ {A = Pairs} (record { pairs = ps; edges = a; wires = c }) (record { pairs = qs; edges = b; wires = d })
-    same ps qs a b c d x y z = ap (λ r. record { pairs = r; edges = a; wires = c }) x ∙ ap (λ r. record { pairs = qs; edges = r; wires = c }) y ∙ ap (λ r. record { pairs = qs; edges = b; wires = r }) z
 
 -- where every edge is refuted, nothing is left
 pub none-left : (g h : PlainGraph) (ps : List Pair) (e n : ℕ) → e < length g.edges → length h.edges ≤ n → ((f : ℕ) → f < n → Refutes g h (Edges e f ∷ []) ps) → (iso : Isomorphic g h) → Maps iso ps → ⊥
@@ -298,6 +290,3 @@ known-next g h s t n x a k e l = go (cases_lt e n)
     go : (e < n) ⊎ (n ≤ e) → (f : ℕ) × Has t.pairs (Edges e f)
     go (inl b) = let r = a e b in (r.0, x.kept (Edges e r.0) r.1)
     go (inr b) = let q : e ≡ n = omega arith in (k.0, subst (λ z. Has t.pairs (Edges z k.0)) (sym q) k.1)
-
-pub extended-refute : (g h : PlainGraph) (s t : Pairs) → IsExtended g h s t → ((iso : Isomorphic g h) → Maps iso t.pairs → ⊥) → (iso : Isomorphic g h) → Maps iso s.pairs → ⊥
-extended-refute g h s t x r iso m = let y = x.exchanged iso m in r y.0 y.1

@@ -6,12 +6,12 @@ use Rattle.std.proofs.lemmas.List.{length-map}
 use Rattle.chyp_graph.specs.PlainGraph.{Edge, PlainGraph, renamed}
 use Rattle.chyp_graph.specs.Isomorphism.{Isomorphic}
 use Rattle.chyp_term.proofs.Positions.{slice_get-length}
-use Rattle.chyp_iso.specs.declared.pair.Pair.{Pair}
-use Rattle.chyp_iso.specs.declared.pair.Pair.TheVariants.{Wires, Edges}
+use Rattle.chyp_pairs.specs.declared.pair.Pair.{Pair}
+use Rattle.chyp_pairs.specs.declared.pair.Pair.TheVariants.{Wires, Edges}
 use Rattle.chyp_iso.specs.Pair.{AreAlike, EdgesFit, WiresFit}
-use Rattle.chyp_iso.specs.Pairs.{Has, IsMatching, Pairs, edge_back, edge_there, image, wire_back, wire_there}
+use Rattle.chyp_pairs.specs.Pairs.{Has, IsMatching, Pairs, edge_back, edge_there, image, wire_back, wire_there}
 use Rattle.chyp_iso.specs.Following.{Fits, Refutes}
-use Rattle.chyp_iso.proofs.PairLists.{has-image, image-has}
+use Rattle.chyp_pairs.proofs.PairLists.{has-image, image-has}
 
 some-0 : (p q : ℕ × ℕ) → ◌≡◌ {A = Option (ℕ × ℕ)} (Some p) (Some q) → p.0 ≡ q.0
 some-0 p q e = ap (λ o. at o) e

@@ -1,31 +1,26 @@
 -- From paired wires to their edges.
-use Rattle.std.proofs.Common.{ℕ, zero, suc, ◌<◌, ◌≡◌, Bool, true, false, cond, eqb, List, [], ◌∷◌, length, map, Option, Some, None, slice_get, option_map, IfSome, IsNone, Contains, ◌↔◌, ◌⊎◌, inl, inr, refl, sym, ◌∙◌, ap, subst, eq-eqb, eqb-true}
+use Rattle.std.proofs.Common.{[], ℕ, ◌<◌, ◌≡◌, Bool, true, false, cond, eqb, List, ◌∷◌, length, Option, Some, None, slice_get, option_map, IfSome, IsNone, Contains, ◌↔◌, ◌⊎◌, inl, inr, refl}
+use Rattle.std.proofs.Common.{sym, ◌∙◌, ap, subst, eq-eqb, eqb-true}
 use Rattle.std.specs.Bool.{MatchBool}
 use Rattle.std.specs.Option.{option_and_then}
 use Rattle.std.proofs.lemmas.Bool.{cases_Bool}
-use Rattle.chyp_term.proofs.Permuted.{found}
+use Rattle.chyp_term.proofs.Permuted.{found, in_map}
+use Rattle.chyp_term.proofs.Members.{Contains-member}
 use Rattle.chyp_graph.specs.PlainGraph.{Edge, PlainGraph, renamed}
 use Rattle.chyp_graph.specs.Isomorphism.{Isomorphic}
 use Rattle.chyp_graph.specs.Validity.{IsValid}
-use Rattle.chyp_graph.proofs.Ports.{Contains-member}
-use Rattle.chyp_iso.specs.declared.pair.Pair.{Pair}
-use Rattle.chyp_iso.specs.declared.pair.Pair.TheVariants.{Wires, Edges}
+use Rattle.chyp_pairs.specs.declared.pair.Pair.{Pair}
+use Rattle.chyp_pairs.specs.declared.pair.Pair.TheVariants.{Wires, Edges}
 use Rattle.chyp_iso.specs.Pair.{WiresFit}
-use Rattle.chyp_iso.specs.Pairs.{Has, Pairs}
+use Rattle.chyp_pairs.specs.Pairs.{Has, Pairs}
 use Rattle.chyp_iso.specs.Port.{IsPortAt, Side, at_one_place, port_pairs, ports_on, the_sources, the_targets}
 use Rattle.chyp_iso.specs.Following.{Fits, Includes, IsClosedUnder, IsFollowedUp, Leads, Maps, Passes, Refutes}
 use Rattle.chyp_iso.proofs.Followed.{Leads-seeds, iso-port, made-closed, made-maps, made_by, maps-made, passes-none, passes-one}
 use Rattle.chyp_iso.proofs.Ports.{below-edge, once, port-no_end, wire-below}
 
--- what an isomorphism takes to a port is one
-get-map-back : (f : ℕ → ℕ) (xs : List ℕ) (i y : ℕ) → slice_get (map f xs) i ≡ Some y → (x : ℕ) × (slice_get xs i ≡ Some x) × (f x ≡ y)
-get-map-back f [] i y e = cc
-get-map-back f (x ∷ xs) zero y e = (x, refl, cc)
-get-map-back f (x ∷ xs) (suc i) y e = get-map-back f xs i y e
-
 renamed-back : (f : ℕ → ℕ) (side : Side) (d : Edge) (i y : ℕ) → slice_get (ports_on side (renamed f d)) i ≡ Some y → (x : ℕ) × (slice_get (ports_on side d) i ≡ Some x) × (f x ≡ y)
-renamed-back f the_sources d i y e = get-map-back f d.sources i y e
-renamed-back f the_targets d i y e = get-map-back f d.targets i y e
+renamed-back f the_sources d i y e = in_map f d.sources i y e
+renamed-back f the_targets d i y e = in_map f d.targets i y e
 
 pub iso-back : (g h : PlainGraph) (iso : Isomorphic g h) (side : Side) (f i w : ℕ) → IsPortAt h side f i w → (v : ℕ) × IsPortAt g side (iso.edge_back f) i v × (iso.wire v ≡ w)
 iso-back g h iso side f i w p =
@@ -36,9 +31,6 @@ iso-back g h iso side f i w p =
     let r : slice_get (ports_on side (renamed iso.wire d.0)) i ≡ Some w = sym (ap (option_and_then (λ x. slice_get (ports_on side x) i)) q) ∙ p in
     let x = renamed-back iso.wire side d.0 i w r in
     (x.0, ap (option_and_then (λ y. slice_get (ports_on side y) i)) d.1 ∙ x.1, x.2)
-
-pub iso-edge : (g h : PlainGraph) → IsValid h → (iso : Isomorphic g h) (side : Side) (e f i v w : ℕ) → iso.wire v ≡ w → IsPortAt g side e i v → IsPortAt h side f i w → iso.edge e ≡ f
-iso-edge g h t iso side e f i v w m p q = made-maps g h iso (Edges e f) ((made-closed g h t iso).up side e f i v w (maps-made g h iso (Wires v w) m) p q)
 
 -- the wires have these ports, or none
 pub record HasEnd (g : PlainGraph) (side : Side) (v : ℕ) (port : Option (ℕ × ℕ)) : Type 0 where

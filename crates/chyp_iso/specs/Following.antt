@@ -3,10 +3,10 @@ use Rattle.std.specs.Prelude.{ℕ, ◌<◌, ◌≡◌, Bool, true, List, ◌++�
 use Rattle.chyp_graph.specs.PlainGraph.{PlainGraph}
 use Rattle.chyp_graph.specs.Isomorphism.{Isomorphic}
 use Rattle.chyp_graph.specs.Validity.{IsValid}
-use Rattle.chyp_iso.specs.declared.pair.Pair.{Pair}
-use Rattle.chyp_iso.specs.declared.pair.Pair.TheVariants.{Wires, Edges}
+use Rattle.chyp_pairs.specs.declared.pair.Pair.{Pair}
+use Rattle.chyp_pairs.specs.declared.pair.Pair.TheVariants.{Wires, Edges}
 use Rattle.chyp_iso.specs.Pair.{MapsPair, PairFits}
-use Rattle.chyp_iso.specs.Pairs.{Has, Pairs}
+use Rattle.chyp_pairs.specs.Pairs.{Has, Pairs}
 use Rattle.chyp_iso.specs.Port.{IsPortAt, Side}
 use Rattle.chyp_iso.specs.Scratch.{HasRoomFor}
 

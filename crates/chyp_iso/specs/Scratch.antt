@@ -1,8 +1,8 @@
 -- What contracts see of the room that a comparison of graphs works in.
 use Rattle.std.specs.Prelude.{ℕ, ◌<◌, ◌≤◌, ◌≡◌, List, [], length, Option, Some, slice_index}
 use Rattle.chyp_graph.specs.PlainGraph.{PlainGraph}
-use Rattle.chyp_iso.specs.declared.pair.Pair.{Pair}
-use Rattle.chyp_iso.specs.Pairs.{Pairs, image}
+use Rattle.chyp_pairs.specs.declared.pair.Pair.{Pair}
+use Rattle.chyp_pairs.specs.Pairs.{Pairs, image}
 
 -- how many edges and wires each of two graphs may have
 pub record Sizes : Type 0 where

@@ -2,10 +2,10 @@
 use Rattle.std.specs.Prelude.{ℕ, ◌<◌, ◌≡◌, ◌++◌, List, length}
 use Rattle.chyp_graph.specs.PlainGraph.{PlainGraph}
 use Rattle.chyp_graph.specs.Isomorphism.{Isomorphic}
-use Rattle.chyp_iso.specs.declared.pair.Pair.{Pair}
-use Rattle.chyp_iso.specs.declared.pair.Pair.TheVariants.{Edges}
+use Rattle.chyp_pairs.specs.declared.pair.Pair.{Pair}
+use Rattle.chyp_pairs.specs.declared.pair.Pair.TheVariants.{Edges}
 use Rattle.chyp_iso.specs.Pair.{wire_pairs}
-use Rattle.chyp_iso.specs.Pairs.{Has, IsMatching, Pairs}
+use Rattle.chyp_pairs.specs.Pairs.{Has, IsMatching, Pairs}
 use Rattle.chyp_iso.specs.Following.{Fits, Includes, IsComplete, Maps}
 
 -- as many edges and as many wires

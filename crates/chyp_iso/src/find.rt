@@ -4,15 +4,15 @@ ghost use Rattle.std.specs.Bool.{MatchBool};
 ghost use Rattle.chyp_graph.specs.Isomorphism.{Isomorphic};
 ghost use Rattle.chyp_graph.specs.Validity.{IsValid};
 ghost use Rattle.chyp_iso.specs.IsIsomorphism.{IsIsomorphism};
-ghost use Rattle.chyp_iso.specs.Pairs.{Pairs, edge_there, image, wire_there};
+ghost use Rattle.chyp_pairs.specs.Pairs.{Pairs, edge_there, image, wire_there};
 ghost use Rattle.chyp_iso.specs.Following.{Fits, Includes, Leads, Maps, Refutes};
 ghost use Rattle.chyp_iso.specs.Search.{HaveSameCounts, HaveSameEnds, IsPairing, IsWhole, end_pairs};
 ghost use Rattle.chyp_iso.specs.Scratch.{AreImages, HasRoomFor};
 
 use crate::follow::{follow_all, pair_lists};
-use crate::pairing::{Pairing, undo};
 use crate::search::pair_rest;
 use chyp_graph::{EdgeId, Graph, WireId};
+use chyp_pairs::Pairing;
 
 /// Whether the graphs have as many edges and as many wires.
 fn same_counts(a: &Graph, b: &Graph) -> bool
@@ -115,6 +115,6 @@ pub(crate) fn find(
     let fits = pair_all(pairing, a, b);
     write_edges(pairing, edges, a.edge_count());
     write_wires(pairing, wires, a.wire_count());
-    undo(pairing, 0);
+    pairing.undo(0);
     fits
 }

@@ -2,14 +2,13 @@
 ghost use Rattle.std.specs.Prelude.{◌≡◌, ◌<◌, [], ◌∷◌, All, IfSome, length, slice_get, true};
 ghost use Rattle.std.specs.Bool.{MatchBool};
 ghost use Rattle.chyp_iso.specs.Pair.{AreAlike, wire_pairs};
-ghost use Rattle.chyp_iso.specs.Pairs.{Has, IsMatching, Pairs};
+ghost use Rattle.chyp_pairs.specs.Pairs.{Has, IsMatching, Pairs};
 ghost use Rattle.chyp_iso.specs.Port.{at_one_place, port_pairs, the_sources, the_targets};
 ghost use Rattle.chyp_iso.specs.Following.{AreFollowed, Fits, Includes, IsComplete, IsFollowed, IsFollowedUp, Leads, Refutes};
-ghost use Rattle.chyp_iso.specs.declared.pair.Pair.TheVariants.{Edges, Wires};
+ghost use Rattle.chyp_pairs.specs.declared.pair.Pair.TheVariants.{Edges, Wires};
 
-use crate::pair::Pair;
-use crate::pairing::Pairing;
 use chyp_graph::{EdgeId, EdgeView, Graph, WireId};
+use chyp_pairs::{Pair, Pairing};
 
 /// Whether the wires have one sort.
 fn same_sort(a: &Graph, b: &Graph, v: WireId, w: WireId) -> bool

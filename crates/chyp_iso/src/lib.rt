@@ -10,8 +10,6 @@ mod compare;
 mod find;
 mod follow;
 mod iso;
-mod pair;
-mod pairing;
 mod room;
 mod scratch;
 mod search;

@@ -3,14 +3,14 @@ ghost use Rattle.std.specs.Prelude.{◌≡◌, IfOk, length, take};
 ghost use Rattle.std.specs.Bool.{MatchBool};
 ghost use Rattle.chyp_graph.specs.Isomorphism.{Isomorphic};
 ghost use Rattle.chyp_iso.specs.IsIsomorphism.{IsIsomorphism};
-ghost use Rattle.chyp_iso.specs.Pairs.{Pairs};
+ghost use Rattle.chyp_pairs.specs.Pairs.{Pairs};
 ghost use Rattle.chyp_iso.specs.Scratch.{HasRoomFor, Room};
 
 use crate::Iso;
 use crate::find::find;
-use crate::pairing::Pairing;
 use chyp_base::NoMemory;
 use chyp_graph::{EdgeId, Graph, WireId};
+use chyp_pairs::Pairing;
 use std::alloc::Global;
 use std::marker::Model;
 

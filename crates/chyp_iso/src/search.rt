@@ -2,14 +2,14 @@
 ghost use Rattle.std.specs.Prelude.{◌≡◌, ◌<◌, ℕ, [], ◌∷◌, length};
 ghost use Rattle.std.specs.Bool.{MatchBool};
 ghost use Rattle.chyp_graph.specs.Isomorphism.{Isomorphic};
-ghost use Rattle.chyp_iso.specs.Pairs.{Has, Pairs};
+ghost use Rattle.chyp_pairs.specs.Pairs.{Has, Pairs};
 ghost use Rattle.chyp_iso.specs.Following.{Leads, Maps, Refutes};
 ghost use Rattle.chyp_iso.specs.Search.{AreKnown, IsExtended, IsPairing};
-ghost use Rattle.chyp_iso.specs.declared.pair.Pair.TheVariants.{Edges};
+ghost use Rattle.chyp_pairs.specs.declared.pair.Pair.TheVariants.{Edges};
 
 use crate::follow::{follow_all, pair_edges};
-use crate::pairing::{Pairing, undo};
 use chyp_graph::{EdgeId, Graph};
+use chyp_pairs::Pairing;
 
 /// Pairs two edges and all that hangs on them; whether it could.
 fn pair_part(pairing: &mut Pairing, a: &Graph, b: &Graph, e: EdgeId, f: EdgeId) -> bool
@@ -38,7 +38,7 @@ fn try_part(pairing: &mut Pairing, a: &Graph, b: &Graph, e: EdgeId, f: EdgeId) -
     if pair_part(pairing, a, b, e, f) {
         return true;
     }
-    undo(pairing, count);
+    pairing.undo(count);
     false
 }
 

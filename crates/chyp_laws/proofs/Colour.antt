@@ -1,6 +1,5 @@
 -- The two closed sets of edges of a graph with an occurrence: those that are not reached, and those of them outside the image.
-use Rattle.std.proofs.Common.{ℕ, ◌<◌, ◌≡◌, Bool, true, false, List, [], ◌∷◌, map, length, option_map, slice_get, slice_index, ◌⊎◌, inl, inr, refl, sym, ◌∙◌, ap}
-use Rattle.std.proofs.Common.{subst, arith}
+use Rattle.std.proofs.Common.{ℕ, ◌<◌, ◌≡◌, Bool, true, false, List, [], ◌∷◌, map, length, option_map, slice_get, slice_index, ◌⊎◌, inl, inr, refl, sym, ◌∙◌, ap, subst, arith}
 use Rattle.std.specs.Prelude.{Contains}
 use Rattle.std.specs.List.{AllByRecursion}
 use Rattle.std.proofs.lemmas.Bool.{cases_Bool, both_ways}
@@ -11,17 +10,17 @@ use Rattle.chyp_theory.proofs.Peeling.{ins, length-ins_of}
 use Rattle.chyp_theory.proofs.Renaming.{Producer, In, Target, map-src}
 use Rattle.chyp_theory.proofs.Running.{EdgeOf, label_of, src}
 use Rattle.chyp_graph.specs.PlainGraph.{PlainGraph, renamed}
-use Rattle.chyp_graph.proofs.Rearrangement.{all-count}
+use Rattle.chyp_term.proofs.Rearrangement.{all-count}
 use Rattle.chyp_laws.proofs.Drawing.{IsWire, drawn}
-use Rattle.chyp_laws.proofs.Draws.{Draws, edge-below, some-same}
-use Rattle.chyp_graph.specs.Occurrence.{IsReached, IsOccurrence, first, next}
-use Rattle.chyp_graph.proofs.Apart.{all-mapped}
-use Rattle.chyp_theory.proofs.Forward.{forward, all-counted}
+use Rattle.chyp_laws.proofs.Draws.{Draws, edge-below}
+use Rattle.chyp_term.proofs.Positions.{some-same, map-map}
+use Rattle.chyp_pattern.specs.Occurrence.{IsReached, IsOccurrence, first, next}
+use Rattle.chyp_term.proofs.Apart.{all-mapped}
+use Rattle.chyp_theory.proofs.Forward.{forward}
 use Rattle.chyp_laws.proofs.Front.{low_run}
-use Rattle.chyp_graph.proofs.SameMembers.{contains-all, contains-at, contains-cons, count-contains, image-contains, index-image}
+use Rattle.chyp_term.proofs.SameMembers.{contains-all, contains-at, contains-cons, count-contains, image-contains, index-image}
 use Rattle.chyp_theory.proofs.Closed.{IsMadeIn, IsClosed}
-use Rattle.chyp_term.proofs.Positions.{map-map}
-use Rattle.chyp_graph.proofs.Reached.{decide-reached}
+use Rattle.chyp_pattern.proofs.Reached.{decide-reached}
 
 module _ {t l : Morphism} (ty : IsTyped t) (tl : IsTyped l) {g lG : PlainGraph} (d : Draws t g) (dl : Draws l lG) {es ws : List ℕ}
     (o : IsOccurrence lG g es ws) where
@@ -54,7 +53,7 @@ module _ {t l : Morphism} (ty : IsTyped t) (tl : IsTyped l) {g lG : PlainGraph} 
   valid_into : (e : EdgeOf t) → AllByRecursion (IsWire t) (into e)
   valid_into =
       forward t (IsWire t) (λ e. AllByRecursion (IsWire t) (into e)) (λ e i. Target e i) (ins t)
-      (all-counted (IsWire t) (λ j. In j) 0 (length (dom t)) (λ j _ h. omega arith)) (λ e a. a) (λ e p i h. h)
+      (all-count (IsWire t) (λ j. In j) 0 (length (dom t)) (λ j _ h. omega arith)) (λ e a. a) (λ e p i h. h)
 
   each : (Q : Producer (EdgeOf t) → Type 0) (xs : List (Producer (EdgeOf t))) → AllByRecursion (IsWire t) xs
       → ((x : Producer (EdgeOf t)) → IsWire t x → Contains (map d.wire xs) (d.wire x) → Q x) → AllByRecursion Q xs

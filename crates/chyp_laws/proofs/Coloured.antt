@@ -8,7 +8,7 @@ use Rattle.chyp_theory.proofs.Running.{EdgeOf, Alike}
 use Rattle.chyp_theory.proofs.Soundness.{sound}
 use Rattle.chyp_graph.specs.PlainGraph.{PlainGraph}
 use Rattle.chyp_laws.proofs.Draws.{Draws}
-use Rattle.chyp_graph.specs.Occurrence.{IsReached, IsOccurrence}
+use Rattle.chyp_pattern.specs.Occurrence.{IsReached, IsOccurrence}
 use Rattle.chyp_theory.proofs.Closed.{IsClosed, closed-along, closed-first}
 use Rattle.chyp_laws.proofs.Colour.{Calm, Before, calm_closed, before_closed, before_not, not_calm, calm_image}
 use Rattle.chyp_theory.proofs.Divide.{Divided, divided_along, divide_layers}

@@ -1,6 +1,5 @@
 -- A context gives an occurrence.
-use Rattle.std.proofs.Common.{ℕ, ◌<◌, ◌≡◌, List, [], ◌++◌, map, length, drop, Option, Some, None, slice_index, inl, inr, sym, ◌∙◌, ap, subst, arith}
-use Rattle.std.proofs.Common.{length-append, length-drop, zero-add}
+use Rattle.std.proofs.Common.{ℕ, ◌<◌, ◌≡◌, List, [], ◌++◌, map, length, drop, Option, Some, None, slice_index, inl, inr, sym, ◌∙◌, ap, subst, arith, length-append, length-drop, zero-add}
 use Rattle.std.proofs.lemmas.List.{length-map}
 use Rattle.chyp_base.specs.declared.sort.Sort.{Sort}
 use Rattle.chyp_term.specs.Derivation.{Derives, IsEquation}
@@ -22,8 +21,8 @@ use Rattle.chyp_laws.proofs.Drawing.{IsWire}
 use Rattle.chyp_laws.proofs.Draws.{Draws, ins-size, edge-below, draw_s, draws_along}
 use Rattle.chyp_laws.proofs.IsomorphicAlike.{alike_from}
 use Rattle.chyp_laws.specs.Rewriting.{IsRewritten}
-use Rattle.chyp_graph.specs.Replacement.{replaced}
-use Rattle.chyp_graph.proofs.Apart.{map-by_index}
+use Rattle.chyp_pattern.specs.Replacement.{replaced}
+use Rattle.chyp_term.proofs.Apart.{map-by_index}
 use Rattle.chyp_laws.proofs.Occurs.{occurs}
 use Rattle.chyp_laws.proofs.Placed.{context, Placed}
 use Rattle.chyp_laws.proofs.ReplacedEdges.{replaced_draws}

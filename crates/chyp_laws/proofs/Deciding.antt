@@ -1,36 +1,24 @@
 -- Isomorphism of graphs is decided, and so are the laws.
-use Rattle.std.proofs.Common.{ℕ, zero, suc, ◌+◌, ◌<◌, ◌≡◌, List, [], map, length, Option, Some, None, option_map, slice_get, slice_index, ◌⊎◌, inl, inr, refl}
-use Rattle.std.proofs.Common.{sym, ◌∙◌, ap, ap₂, subst, arith, add-zero, zero-add}
+use Rattle.std.proofs.Common.{[], ℕ, zero, suc, ◌+◌, ◌<◌, ◌≡◌, List, map, length, Option, Some, None, option_map, slice_get, slice_index, ◌⊎◌, refl, sym, ◌∙◌, ap, ap₂, subst, arith, add-zero}
+use Rattle.std.proofs.Common.{zero-add}
 use Rattle.std.proofs.lemmas.Bool.{cases_eq}
 use Rattle.std.proofs.lemmas.List.{length-map}
 use Rattle.chyp_term.specs.Derivation.{Derives}
 use Rattle.chyp_term.specs.Morphism.{IsTyped, Morphism}
 use Rattle.chyp_term.specs.Perm.{count_from}
-use Rattle.chyp_term.proofs.Deciding.{Decided, decide-below, decide-both, decide-less, decide-numbers, decide-sort, decided-by, decide-list_of, HasList}
+use Rattle.chyp_term.proofs.Deciding.{Decided, decide-below, decide-both, decide-less, decide-numbers, decide-sort, decided-by, decide-list_of, HasList, decide-option}
 use Rattle.chyp_term.proofs.Inverses.{Under-map-count}
 use Rattle.chyp_term.proofs.Permuted.{Under, length-count_from}
+use Rattle.chyp_term.proofs.Members.{Member, Rearr-member, get-member, map-same_on, member-below, member-flat, member-right}
+use Rattle.chyp_term.proofs.Rearrangement.{Rearr-sym, permutation-Rearr}
 use Rattle.chyp_graph.specs.GraphOf.{graph_of}
 use Rattle.chyp_graph.specs.Isomorphism.{IsBijection, Isomorphic}
 use Rattle.chyp_graph.specs.PlainGraph.{Edge, PlainGraph, renamed, sources_of, targets_of}
 use Rattle.chyp_graph.specs.Validity.{IsValid}
-use Rattle.chyp_graph.proofs.Members.{Member, Rearr-member, get-member, map-same_on, member-below, member-flat, member-right}
 use Rattle.chyp_graph.proofs.Numbering.{input-below, output-below}
-use Rattle.chyp_graph.proofs.Rearrangement.{Rearr-sym, permutation-Rearr}
 use Rattle.chyp_graph.proofs.Validity.{valid}
+use Rattle.chyp_graph.proofs.Deciding.{decide-edge}
 use Rattle.chyp_laws.proofs.Theorem.{derivation_isomorphic, isomorphic_derivation}
-
-decide-option : {A : Type 0} → ((x y : A) → Decided (x ≡ y)) → (o p : Option A) → Decided (o ≡ p)
-decide-option d None None = inl refl
-decide-option d None (Some y) = inr (λ e. cc)
-decide-option d (Some x) None = inr (λ e. cc)
-decide-option d (Some x) (Some y) = decided-by (λ e. ap (λ z. Some z) e) (λ e. cc) (d x y)
-
-decide-edge : (d e : Edge) → Decided (d ≡ e)
-decide-edge d e = decided-by (λ r. same d e r.0 r.1.0 r.1.1) (λ q. (ap (λ (x : Edge). x.name) q, (ap (λ (x : Edge). x.sources) q, ap (λ (x : Edge). x.targets) q)))
-    (decide-both (decide-numbers d.name e.name) (decide-both (decide-numbers d.sources e.sources) (decide-numbers d.targets e.targets)))
-  where
-    same : (d e : Edge) → d.name ≡ e.name → d.sources ≡ e.sources → d.targets ≡ e.targets → d ≡ e
-    same d e n s t = ap (λ x. record { name = x; sources = d.sources; targets = d.targets }) n ∙ ap₂ (λ x y. record { name = e.name; sources = x; targets = y }) s t
 
 decide-bijection : (m n : ℕ) (f g : ℕ → ℕ) → Decided (IsBijection m n f g)
 decide-bijection m n f g = decided-by (λ r. record { there = r.0; back = r.1.0; there_back = r.1.1.0; back_there = r.1.1.1 }) (λ t. (t.there, (t.back, (t.there_back, t.back_there))))

@@ -1,15 +1,18 @@
 -- The graph of a term, wire by wire.
-use Rattle.std.proofs.Common.{ℕ, zero, suc, ◌+◌, ◌-◌, ◌<◌, ◌≤◌, ◌≡◌, cond, ltb, List, [], ◌∷◌, ◌++◌, map, length, Option, Some, slice_get, ◌⊎◌, inl, inr, refl, sym, ◌∙◌, ap, arith, length-append, add-zero, zero-add, lt-ltb, le-ltb}
+use Rattle.std.proofs.Common.{[], ℕ, zero, suc, ◌+◌, ◌-◌, ◌<◌, ◌≤◌, ◌≡◌, cond, ltb, List, ◌∷◌, ◌++◌, map, length, Option, Some, slice_get, ◌⊎◌, inl, inr, refl, sym, ◌∙◌, ap, arith, length-append}
+use Rattle.std.proofs.Common.{add-zero, zero-add, lt-ltb, le-ltb}
 use Rattle.std.proofs.lemmas.List.{length-map}
 use Rattle.std.proofs.lemmas.Bool.{cases_lt}
 use Rattle.chyp_base.specs.declared.sort.Sort.{Sort}
-use Rattle.chyp_term.specs.Morphism.{Morphism, beside, dom, generator, permutation, then}
+use Rattle.chyp_term.specs.Morphism.{Morphism, dom, generator, permutation}
 use Rattle.chyp_term.specs.Perm.{IsPermutation, count_from, permuted}
 use Rattle.chyp_term.proofs.Closure.{Under-perm}
 use Rattle.chyp_term.proofs.Permuted.{Under, count_from-0, get-append_left, get-append_right, length-count_from}
+use Rattle.chyp_term.proofs.Positions.{map-id}
 use Rattle.chyp_theory.proofs.Peeling.{ins}
 use Rattle.chyp_theory.proofs.Renaming.{In, Producer, Target}
 use Rattle.chyp_theory.proofs.Running.{EdgeOf, label_of, run, src}
+use Rattle.chyp_theory.proofs.EdgeLists.{edges_of}
 use Rattle.chyp_graph.specs.GraphOf.{graph_of}
 use Rattle.chyp_graph.specs.PlainGraph.{Edge, PlainGraph}
 
@@ -20,12 +23,6 @@ sort_at t (Target e i) = slice_get (label_of t e).cod i
 abbrev pub IsWire : (t : Morphism) → Producer (EdgeOf t) → Type 0
 IsWire t (In j) = j < length (dom t)
 IsWire t (Target e i) = i < length (label_of t e).cod
-
-abbrev pub edges_of : (t : Morphism) → List (EdgeOf t)
-edges_of (generator n a b) = tt ∷ []
-edges_of (permutation a p) = []
-edges_of (then s t) = map (λ e. inl e) (edges_of s) ++ map (λ e. inr e) (edges_of t)
-edges_of (beside s t) = map (λ e. inl e) (edges_of s) ++ map (λ e. inr e) (edges_of t)
 
 abbrev pub drawn : (t : Morphism) → (EdgeOf t → ℕ → ℕ) → List ℕ → EdgeOf t → Edge
 drawn t mk ins e = record { name = (label_of t e).name; sources = src t mk ins e; targets = map (mk e) (count_from 0 (length (label_of t e).cod)) }
@@ -46,10 +43,6 @@ pub record Drawn (t : Morphism) (g : PlainGraph) : Type 0 where
 pub length-ins : {t : Morphism} {g : PlainGraph} (d : Drawn t g) → length g.inputs ≡ length (dom t)
 length-ins {t} d = ap length d.inputs ∙ length-map (count_from 0 (length (dom t))) (λ j. d.wire (In j)) ∙ length-count_from 0 (length (dom t))
 
-pub map-id' : (xs : List ℕ) → map (λ x. x) xs ≡ xs
-map-id' [] = refl
-map-id' (x ∷ xs) = ap (λ r. x ∷ r) (map-id' xs)
-
 pub drawn_generator : (n : List ℕ) (a b : List Sort) → Drawn (generator n a b) (graph_of (generator n a b))
 drawn_generator n a b =
     let q : length (a ++ b) ≡ length a + length b = length-append a b in
@@ -61,7 +54,7 @@ drawn_generator n a b =
       wire_from = λ w h. wire_from w (cases_lt w (length a));
       from_wire = elim [ In j ↦ λ h. rw (lt-ltb j (length a) h) refl | Target e i ↦ λ h. rw (le-ltb (length a + i) (length a) (omega arith)) (ap (Target tt) (omega arith)) ];
       sorts = elim [ In j ↦ λ h. get-append_left a b j h | Target e i ↦ λ h. get-append_right a b i ];
-      inputs = sym (map-id' (count_from 0 (length a)));
+      inputs = sym (map-id (count_from 0 (length a)));
       outputs = count_from-0 (length a) (length b);
       edges = ap (λ ts. record { name = n; sources = count_from 0 (length a); targets = ts } ∷ []) (count_from-0 (length a) (length b));
     }
@@ -90,7 +83,7 @@ drawn_permutation a p ty = record {
   wire_from = λ w h. refl;
   from_wire = elim [ In j ↦ λ h. refl | Target e i ↦ absurd e ];
   sorts = elim [ In j ↦ λ h. refl | Target e i ↦ absurd e ];
-  inputs = sym (map-id' (count_from 0 (length a)));
+  inputs = sym (map-id (count_from 0 (length a)));
   outputs = sym (permuted-numbers (length a) p (Under-perm _ p ty));
   edges = refl;
 }

@@ -1,5 +1,6 @@
 -- The graph of s * t.
-use Rattle.std.proofs.Common.{ℕ, ◌+◌, ◌-◌, ◌<◌, ◌≤◌, ◌≡◌, cond, ltb, ◌++◌, map, length, take, drop, slice_get, ◌⊎◌, inl, inr, refl, sym, ◌∙◌, ap, ap₂, subst, arith, length-append, zero-add, lt-ltb, le-ltb}
+use Rattle.std.proofs.Common.{ℕ, ◌+◌, ◌-◌, ◌<◌, ◌≤◌, ◌≡◌, cond, ltb, ◌++◌, map, length, take, drop, slice_get, ◌⊎◌, inl, inr, refl, sym, ◌∙◌, ap, ap₂, subst, arith, length-append, zero-add}
+use Rattle.std.proofs.Common.{lt-ltb, le-ltb}
 use Rattle.std.proofs.lemmas.List.{map-append}
 use Rattle.std.proofs.lemmas.Bool.{cases_lt}
 use mathlib.Core.Path.{fun_ext}
@@ -11,7 +12,8 @@ use Rattle.chyp_theory.proofs.Renaming.{In, Producer, Target, map-count, map-run
 use Rattle.chyp_theory.proofs.Running.{EdgeOf, label_of, run, src}
 use Rattle.chyp_graph.specs.Composition.{beside_graph}
 use Rattle.chyp_graph.specs.PlainGraph.{PlainGraph, renamed}
-use Rattle.chyp_laws.proofs.Drawing.{Drawn, IsWire, drawn, edges_of, length-ins, sort_at}
+use Rattle.chyp_laws.proofs.Drawing.{Drawn, IsWire, drawn, length-ins, sort_at}
+use Rattle.chyp_theory.proofs.EdgeLists.{edges_of}
 
 module _ (s t : Morphism) (ts : IsTyped s) (ty : IsTyped t) (g h : PlainGraph) (d : Drawn s g) (k : Drawn t h) where
   wire : Producer (EdgeOf (beside s t)) → ℕ

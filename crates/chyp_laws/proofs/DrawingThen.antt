@@ -1,5 +1,6 @@
 -- The graph of s ; t.
-use Rattle.std.proofs.Common.{ℕ, ◌+◌, ◌-◌, ◌<◌, ◌≤◌, ◌≡◌, true, not, cond, ltb, List, ◌++◌, map, length, Some, None, slice_get, slice_index, ◌⊎◌, inl, inr, refl, sym, ◌∙◌, ap, ap₂, subst, arith, length-append, zero-add, lt-ltb, le-ltb}
+use Rattle.std.proofs.Common.{ℕ, ◌+◌, ◌-◌, ◌<◌, ◌≤◌, ◌≡◌, true, not, cond, ltb, List, ◌++◌, map, length, Some, None, slice_get, slice_index, ◌⊎◌, inl, inr, refl, sym, ◌∙◌, ap, ap₂, subst}
+use Rattle.std.proofs.Common.{arith, length-append, zero-add, lt-ltb, le-ltb}
 use Rattle.std.proofs.lemmas.List.{map-append}
 use Rattle.std.proofs.lemmas.Bool.{cases_lt}
 use mathlib.Core.Path.{fun_ext}
@@ -15,7 +16,8 @@ use Rattle.chyp_theory.proofs.Running.{EdgeOf, label_of, run, src}
 use Rattle.chyp_graph.specs.Composition.{inner, joined, joined_at, then_graph}
 use Rattle.chyp_graph.specs.PlainGraph.{PlainGraph, renamed}
 use Rattle.chyp_graph.proofs.Inner.{Kept, kept-back, place-map, place-none}
-use Rattle.chyp_laws.proofs.Drawing.{Drawn, IsWire, drawn, edges_of, length-ins, sort_at}
+use Rattle.chyp_laws.proofs.Drawing.{Drawn, IsWire, drawn, length-ins, sort_at}
+use Rattle.chyp_theory.proofs.EdgeLists.{edges_of}
 
 module _ (s t : Morphism) (ts : IsTyped s) (ty : IsTyped t) (m : cod s ≡ dom t) (g h : PlainGraph) (d : Drawn s g) (k : Drawn t h) where
   pub input_place : (j : ℕ) → j < length (dom t) → place_of (k.wire (In j)) h.inputs ≡ Some j

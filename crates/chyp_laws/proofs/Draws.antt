@@ -3,15 +3,16 @@ use Rattle.std.proofs.Common.{ℕ, ◌<◌, ◌≡◌, List, map, length, Option
 use Rattle.std.proofs.lemmas.List.{length-map}
 use Rattle.chyp_term.specs.Morphism.{IsTyped, Morphism, dom}
 use Rattle.chyp_term.specs.Perm.{count_from}
-use Rattle.chyp_term.proofs.Permuted.{length-count_from}
-use Rattle.chyp_term.proofs.Positions.{slice_get-length}
+use Rattle.chyp_term.proofs.Permuted.{length-count_from, get-map}
+use Rattle.chyp_term.proofs.Positions.{slice_get-length, some-same}
 use Rattle.chyp_theory.proofs.Renaming.{In, Producer, Target, same-run, same-src}
 use Rattle.chyp_theory.proofs.Running.{Alike, EdgeOf, label_of, run, src}
+use Rattle.chyp_theory.proofs.EdgeLists.{edges_of, edge_at, edge_of, number, number_at}
+use Rattle.chyp_theory.proofs.Sources.{rename}
 use Rattle.chyp_graph.specs.GraphOf.{graph_of}
 use Rattle.chyp_graph.specs.PlainGraph.{PlainGraph}
-use Rattle.chyp_laws.proofs.Drawing.{Drawn, IsWire, drawn, edges_of, sort_at}
-use Rattle.chyp_term.proofs.Permuted.{get-map}
-use Rattle.chyp_laws.proofs.Edges.{draw, edge_at, edge_of, number, number_at}
+use Rattle.chyp_laws.proofs.Drawing.{Drawn, IsWire, drawn, sort_at}
+use Rattle.chyp_laws.proofs.Edges.{draw}
 
 pub record Draws (t : Morphism) (g : PlainGraph) : Type 0 where
   pub wire : Producer (EdgeOf t) → ℕ
@@ -34,9 +35,6 @@ ins-size {t} d = ap length d.inputs ∙ length-map (count_from 0 (length (dom t)
 
 pub edge-below : {t : Morphism} {g : PlainGraph} (d : Draws t g) (e : EdgeOf t) → d.edge e < length g.edges
 edge-below {g = g} d e = slice_get-length g.edges (d.edge e) _ (d.ports e)
-
-pub some-same : {A : Type 0} (x y : A) → ◌≡◌ {A = Option A} (Some x) (Some y) → x ≡ y
-some-same x y e = cc
 
 pub edge-apart : {t : Morphism} {g : PlainGraph} (d : Draws t g) (e f : EdgeOf t) → d.edge e ≡ d.edge f → e ≡ f
 edge-apart d e f q = some-same e f (sym (d.edge_back e) ∙ ap d.edge_from q ∙ d.edge_back f)
@@ -68,32 +66,28 @@ draws_of {t} {g} d = record {
 pub draw_s : (t : Morphism) → IsTyped t → Draws t (graph_of t)
 draw_s t ty = draws_of (draw t ty)
 
-abbrev pub carried : {E F : Type 0} → (E → F) → Producer E → Producer F
-carried f (In j) = In j
-carried f (Target e i) = Target (f e) i
-
 -- alike terms have the same graphs
 module _ {s t : Morphism} {g : PlainGraph} (a : Alike s t) (d : Draws s g) where
-  pub forth-valid : (x : Producer (EdgeOf s)) → IsWire s x → IsWire t (carried a.to x)
+  pub forth-valid : (x : Producer (EdgeOf s)) → IsWire s x → IsWire t (rename a.to x)
   forth-valid (In j) l = subst (λ n. j < n) (ap length a.doms) l
   forth-valid (Target e i) l = subst (λ z. i < length z.cod) (sym (a.labels e)) l
 
   pub back-label : (e : EdgeOf t) → label_of s (a.from e) ≡ label_of t e
   back-label e = sym (a.labels (a.from e)) ∙ ap (label_of t) (a.to_from e)
 
-  pub back-valid : (x : Producer (EdgeOf t)) → IsWire t x → IsWire s (carried a.from x)
+  pub back-valid : (x : Producer (EdgeOf t)) → IsWire t x → IsWire s (rename a.from x)
   back-valid (In j) l = subst (λ n. j < n) (sym (ap length a.doms)) l
   back-valid (Target e i) l = subst (λ z. i < length z.cod) (sym (back-label e)) l
 
-  pub back-forth : (x : Producer (EdgeOf s)) → carried a.from (carried a.to x) ≡ x
+  pub back-forth : (x : Producer (EdgeOf s)) → rename a.from (rename a.to x) ≡ x
   back-forth (In j) = refl
   back-forth (Target e i) = ap (λ z. Target z i) (a.from_to e)
 
-  pub forth-back : (x : Producer (EdgeOf t)) → carried a.to (carried a.from x) ≡ x
+  pub forth-back : (x : Producer (EdgeOf t)) → rename a.to (rename a.from x) ≡ x
   forth-back (In j) = refl
   forth-back (Target e i) = ap (λ z. Target z i) (a.to_from e)
 
-  pub sort-back : (x : Producer (EdgeOf t)) → sort_at s (carried a.from x) ≡ sort_at t x
+  pub sort-back : (x : Producer (EdgeOf t)) → sort_at s (rename a.from x) ≡ sort_at t x
   sort-back (In j) = ap (λ z. slice_get z j) a.doms
   sort-back (Target e i) = ap (λ z. slice_get z.cod i) (back-label e)
 
@@ -110,14 +104,14 @@ module _ {s t : Morphism} {g : PlainGraph} (a : Alike s t) (d : Draws s g) where
 
   unfoldable pub draws_along : Draws t g
   draws_along = record {
-    wire = λ x. d.wire (carried a.from x);
-    from = λ w. carried a.to (d.from w);
+    wire = λ x. d.wire (rename a.from x);
+    from = λ w. rename a.to (d.from w);
     edge = λ e. d.edge (a.from e);
     edge_from = λ n. option_map a.to (d.edge_from n);
     wire_below = λ x v. d.wire_below _ (back-valid x v);
     from_valid = λ w l. forth-valid _ (d.from_valid w l);
     wire_from = λ w l. ap d.wire (back-forth (d.from w)) ∙ d.wire_from w l;
-    from_wire = λ x v. ap (carried a.to) (d.from_wire _ (back-valid x v)) ∙ forth-back x;
+    from_wire = λ x v. ap (rename a.to) (d.from_wire _ (back-valid x v)) ∙ forth-back x;
     sorts = λ x v. d.sorts _ (back-valid x v) ∙ sort-back x;
     inputs = d.inputs ∙ ap (λ n. map (λ j. d.wire (In j)) (count_from 0 n)) (ap length a.doms);
     outputs = d.outputs ∙ sym (ran g.inputs (ins-size d));

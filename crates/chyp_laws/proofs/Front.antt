@@ -6,11 +6,11 @@ use Rattle.chyp_theory.proofs.Congruence.{length-run}
 use Rattle.chyp_theory.proofs.Renaming.{Producer, In, Target, map-run, same-run}
 use Rattle.chyp_theory.proofs.Running.{EdgeOf, label_of, run, src}
 use Rattle.chyp_graph.specs.PlainGraph.{PlainGraph}
-use Rattle.chyp_graph.proofs.Rearrangement.{all-count}
+use Rattle.chyp_term.proofs.Rearrangement.{all-count}
 use Rattle.chyp_laws.proofs.Draws.{Draws, ins-size, wire-apart}
 use Rattle.chyp_laws.proofs.IsomorphicAlike.{run-sorts, input-sorts}
-use Rattle.chyp_graph.proofs.Apart.{Apart, Apart-count}
-use Rattle.chyp_laws.proofs.Linear.{all-run, on_left, IsLinear, is_linear}
+use Rattle.chyp_term.proofs.Apart.{Apart, Apart-count}
+use Rattle.chyp_theory.proofs.Linear.{all-run, on_left, IsLinear, is_linear}
 
 -- an input, or made by the first of two terms
 abbrev pub IsEarly : {A B : Type 0} → Producer (A ⊎ B) → Type 0

@@ -1,6 +1,5 @@
 -- The middle of a term that an occurrence divides: its edges are those of l.
-use Rattle.std.proofs.Common.{ℕ, ◌<◌, ◌≡◌, true, false, List, [], ◌∷◌, ◌++◌, map, length, Some, option_map, slice_get, slice_index, inl, inr, refl, sym, ◌∙◌}
-use Rattle.std.proofs.Common.{ap, ap₂, subst, arith, zero-add}
+use Rattle.std.proofs.Common.{ℕ, ◌<◌, ◌≡◌, true, false, List, [], ◌∷◌, ◌++◌, map, length, Some, option_map, slice_get, slice_index, inl, inr, refl, sym, ◌∙◌, ap, ap₂, subst, arith, zero-add}
 use Rattle.std.specs.List.{AllByRecursion}
 use Rattle.std.proofs.lemmas.Bool.{both_ways}
 use Rattle.chyp_term.specs.Morphism.{Morphism, then, dom, IsTyped}
@@ -13,19 +12,18 @@ use Rattle.chyp_theory.proofs.Cancelling.{map-Some}
 use Rattle.chyp_theory.proofs.Renaming.{Producer, In, Target}
 use Rattle.chyp_theory.proofs.Running.{EdgeOf, Label, label_of, run, src}
 use Rattle.chyp_graph.specs.PlainGraph.{PlainGraph, renamed}
-use Rattle.chyp_graph.proofs.Members.{Member, member-left, member-right}
-use Rattle.chyp_graph.proofs.Ports.{member-Contains}
-use Rattle.chyp_graph.proofs.Rearrangement.{all-count}
+use Rattle.chyp_term.proofs.Members.{Member, member-left, member-right, member-Contains}
+use Rattle.chyp_term.proofs.Rearrangement.{all-count}
 use Rattle.chyp_laws.proofs.Drawing.{IsWire, drawn}
 use Rattle.chyp_laws.proofs.Draws.{Draws, ins-size, edge-below, edge-apart, wire-apart}
 use Rattle.chyp_laws.proofs.IsomorphicAlike.{input-sorts, source-sorts, target-sorts, map-count-at}
-use Rattle.chyp_graph.specs.Occurrence.{IsReached, first, IsOccurrence}
-use Rattle.chyp_graph.proofs.Apart.{Apart, Apart-count}
+use Rattle.chyp_pattern.specs.Occurrence.{IsReached, first, IsOccurrence}
+use Rattle.chyp_term.proofs.Apart.{Apart, Apart-count}
 use Rattle.chyp_laws.proofs.Colour.{matched, same_ports}
-use Rattle.chyp_graph.proofs.Reached.{reached-outside}
+use Rattle.chyp_pattern.proofs.Reached.{reached-outside}
 use Rattle.chyp_laws.proofs.Front.{low_inputs, low_run}
-use Rattle.chyp_laws.proofs.Linear.{made, member-made, comes_out}
-use Rattle.chyp_graph.proofs.SameMembers.{index-image, count-contains, get-contains, member-count}
+use Rattle.chyp_theory.proofs.Linear.{made, member-made, comes_out}
+use Rattle.chyp_term.proofs.SameMembers.{index-image, count-contains, get-contains, member-count}
 
 -- a term in three parts that g draws, with an occurrence of the graph of l in g: the edges of the first part are neither
 -- image nor reached, those of the middle are the image, and those of the last part are reached

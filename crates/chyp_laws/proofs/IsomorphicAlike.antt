@@ -1,12 +1,13 @@
 -- Terms with isomorphic graphs are alike.
-use Rattle.std.proofs.Common.{ℕ, zero, suc, ◌+◌, ◌<◌, ◌≡◌, List, [], ◌∷◌, ◌++◌, map, length, take, drop, Option, Some, option_map, slice_get, slice_index, inl, inr, refl, sym, ◌∙◌, ap, ap₂, subst, arith, add-zero, zero-add}
+use Rattle.std.proofs.Common.{ℕ, zero, suc, ◌+◌, ◌<◌, ◌≡◌, List, [], ◌∷◌, ◌++◌, map, length, take, drop, Option, Some, option_map, slice_get, slice_index, inl, inr, refl, sym, ◌∙◌, ap}
+use Rattle.std.proofs.Common.{ap₂, subst, arith, add-zero, zero-add}
 use Rattle.std.proofs.lemmas.List.{map-append, take-map, drop-map, take_all}
 use Rattle.chyp_base.specs.declared.sort.Sort.{Sort}
 use Rattle.chyp_term.specs.Morphism.{IsTyped, Morphism, beside, cod, dom, generator, permutation, then}
 use Rattle.chyp_term.specs.Perm.{count_from}
 use Rattle.chyp_term.proofs.Closure.{Under-perm}
 use Rattle.chyp_term.proofs.Permuted.{drop-left, permuted-map, take-left}
-use Rattle.chyp_term.proofs.Positions.{map-map, slice_get-length}
+use Rattle.chyp_term.proofs.Positions.{map-map, slice_get-length, some-same}
 use Rattle.chyp_theory.proofs.Cancelling.{map-Some, read-take}
 use Rattle.chyp_theory.proofs.Peeling.{get_or-count}
 use Rattle.chyp_theory.proofs.Renaming.{In, Target, map-run, map-src, same-run, same-src}
@@ -15,7 +16,7 @@ use Rattle.chyp_theory.proofs.Separation.{alike_by}
 use Rattle.chyp_graph.specs.Isomorphism.{Isomorphic}
 use Rattle.chyp_graph.specs.PlainGraph.{PlainGraph, renamed}
 use Rattle.chyp_laws.proofs.Drawing.{drawn}
-use Rattle.chyp_laws.proofs.Draws.{Draws, edge-apart, edge-below, ins-size, some-same}
+use Rattle.chyp_laws.proofs.Draws.{Draws, edge-apart, edge-below, ins-size}
 
 pub read-all : {V : Type 0} (xs : List V) (f : ℕ → Option V) → ((i : ℕ) → i < length xs → f i ≡ slice_get xs i) → map f (count_from 0 (length xs)) ≡ map (λ x. Some x) xs
 read-all xs f h = read-take xs 0 (length xs) f (omega arith) (λ i l. ap f (zero-add i) ∙ h i l) ∙ ap (map (λ x. Some x)) (take_all (length xs) xs (omega arith))

@@ -7,7 +7,6 @@ pub mod AlikeIsomorphic
 pub mod IsomorphicAlike
 pub mod Theorem
 pub mod Deciding
-pub mod Linear
 pub mod Front
 pub mod Placed
 pub mod Occurs
@@ -18,7 +17,6 @@ pub mod ReplacedEdges
 pub mod Context
 pub mod Colour
 pub mod Coloured
-pub mod SameOuts
 pub mod Image
 pub mod Middle
 pub mod OccurrenceContext

@@ -1,6 +1,5 @@
 -- The middle of a term that an occurrence divides is l beside an identity, between two permutations.
-use Rattle.std.proofs.Common.{ℕ, ◌<◌, ◌≡◌, List, ◌++◌, map, length, take, drop, Option, Some, None, slice_get, slice_index, ◌⊎◌, inl, inr, refl, sym, ◌∙◌, ap}
-use Rattle.std.proofs.Common.{ap₂, subst, take-append-drop}
+use Rattle.std.proofs.Common.{ℕ, ◌<◌, ◌≡◌, List, ◌++◌, map, length, take, drop, Option, Some, None, slice_get, slice_index, ◌⊎◌, inl, inr, refl, sym, ◌∙◌, ap, ap₂, subst, take-append-drop}
 use Rattle.std.specs.List.{AllByRecursion}
 use Rattle.std.proofs.lemmas.List.{length-map, map-append, take-map, drop-map}
 use Rattle.chyp_base.specs.declared.sort.Sort.{Sort}
@@ -22,17 +21,18 @@ use Rattle.chyp_theory.proofs.Renaming.{Producer, In, Target, map-run, map-src, 
 use Rattle.chyp_theory.proofs.Running.{EdgeOf, label_of, run, src, Alike}
 use Rattle.chyp_theory.proofs.Separation.{alike_by}
 use Rattle.chyp_graph.specs.PlainGraph.{PlainGraph}
-use Rattle.chyp_graph.proofs.Rearrangement.{Rearr}
-use Rattle.chyp_laws.proofs.Draws.{Draws, ins-size, wire-apart, carried}
+use Rattle.chyp_term.proofs.Rearrangement.{Rearr}
+use Rattle.chyp_laws.proofs.Draws.{Draws, ins-size, wire-apart}
+use Rattle.chyp_theory.proofs.Sources.{rename}
 use Rattle.chyp_laws.proofs.IsomorphicAlike.{run-sorts}
-use Rattle.chyp_graph.proofs.Apart.{Apart, place-of_index, place-of_none}
+use Rattle.chyp_term.proofs.Apart.{Apart, place-of_index, place-of_none}
 use Rattle.chyp_laws.proofs.Front.{IsEarly, outs_size, front_linear, front_early, outs_sorts}
-use Rattle.chyp_laws.proofs.Image.{Parted, live, mk, to, from, to_from, from_to, sources, labels, target, mouth, mouth_apart, mouth_is, mouth_sorts}
-use Rattle.chyp_laws.proofs.Image.{mouth_has}
-use Rattle.chyp_laws.proofs.Linear.{on_left, on_right, IsLinear, is_linear}
-use Rattle.chyp_graph.proofs.SameMembers.{rearr_perm, take_out}
+use Rattle.chyp_laws.proofs.Image.{Parted, live, mk, to, from, to_from, from_to, sources, labels, target, mouth, mouth_apart, mouth_is, mouth_sorts, mouth_has}
+use Rattle.chyp_theory.proofs.Linear.{on_left, on_right, IsLinear, is_linear}
+use Rattle.chyp_term.proofs.Blocks.{Permutes, rearr_perm}
+use Rattle.chyp_term.proofs.SameMembers.{take_out}
 use Rattle.chyp_theory.proofs.Naming.{Named}
-use Rattle.chyp_laws.proofs.SameOuts.{same_outs}
+use Rattle.chyp_theory.proofs.SameOuts.{same_outs}
 
 -- the edges of l between permutations
 abbrev pub to_mid : {A B : Type 0} → (A → B) → ⊥ ⊎ ((⊥ ⊎ A) ⊎ ⊥) → B
@@ -70,24 +70,24 @@ module _ {l : Morphism} {lG g : PlainGraph} {dl : Draws l lG} {es ws : List ℕ}
   rest : List ℕ
   rest = taken.0
 
-  chosen : (p : List ℕ) × IsPermutation (length lv) p × (permuted lv p ≡ rest ++ mo)
+  chosen : Permutes lv (rest ++ mo)
   unfolding rest
   chosen = rearr_perm taken.1
 
   -- the permutation that brings the images of the inputs of l behind the others
   pub p : List ℕ
-  p = chosen.0
+  p = chosen.places
 
   p_is : permuted lv p ≡ rest ++ mo
   unfolding p
-  p_is = chosen.2
+  p_is = chosen.gives
 
   live_size : length lv ≡ length (dom M)
   live_size = outs_size ty d
 
   pub p_perm : IsPermutation (length (dom M)) p
   unfolding p
-  p_perm = subst (λ n. IsPermutation n chosen.0) live_size chosen.1
+  p_perm = subst (λ n. IsPermutation n chosen.places) live_size chosen.perm
 
   p_under : Under (length lv) p
   p_under = subst (λ n. Under n p) (sym live_size) (Under-perm _ p p_perm)
@@ -182,7 +182,7 @@ module _ {l : Morphism} {lG g : PlainGraph} {dl : Draws l lG} {es ws : List ℕ}
   inner_apart (inr (inr x)) (inr (inl y)) i j h k q = absurd y
   inner_apart (inr (inr x)) (inr (inr y)) i j h k q =
       sym (ap (λ z. Target (inr (inr z)) i) (from_to parts x))
-      ∙ ap (carried (λ m. inr (inr (from parts m)))) (mark_apart (im x) (im y) i j (size_at x i h) (size_at y j k) q)
+      ∙ ap (rename (λ m. inr (inr (from parts m)))) (mark_apart (im x) (im y) i j (size_at x i h) (size_at y j k) q)
       ∙ ap (λ z. Target (inr (inr z)) j) (from_to parts y)
 
   inner_new : (x : EdgeOf inner) (i : ℕ) → i < length (label_of inner x).cod → AllByRecursion (λ z. ¬ (nm (to_inner im x) i ≡ z)) lv
@@ -207,16 +207,16 @@ module _ {l : Morphism} {lG g : PlainGraph} {dl : Draws l lG} {es ws : List ℕ}
       (elim [ inl e ↦ absurd e | inr (inl e) ↦ absurd e | inr (inr e) ↦ source e ])
       (λ e i. refl) inner_linear middle_linear
 
-  back_chosen : (q : List ℕ) × IsPermutation (length inner_out) q × (permuted inner_out q ≡ middle_out)
+  back_chosen : Permutes inner_out middle_out
   back_chosen = rearr_perm order
 
   -- the permutation back
   pub q : List ℕ
-  q = back_chosen.0
+  q = back_chosen.places
 
   q_is : permuted inner_out q ≡ middle_out
   unfolding q
-  q_is = back_chosen.2
+  q_is = back_chosen.gives
 
   exit_sorts : map (slice_get g.wires) exits ≡ map (λ z. Some z) (cod l)
   unfolding exits
@@ -244,7 +244,7 @@ module _ {l : Morphism} {lG g : PlainGraph} {dl : Draws l lG} {es ws : List ℕ}
 
   q_perm : IsPermutation (length (K ++ cod l)) q
   unfolding q
-  q_perm = subst (λ n. IsPermutation n back_chosen.0) inner_size back_chosen.1
+  q_perm = subst (λ n. IsPermutation n back_chosen.places) inner_size back_chosen.perm
 
   cod_is : permuted (K ++ cod l) q ≡ cod M
   cod_is = map-Some _ _ (

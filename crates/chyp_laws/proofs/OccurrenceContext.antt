@@ -15,7 +15,7 @@ use Rattle.chyp_graph.specs.GraphOf.{graph_of}
 use Rattle.chyp_graph.specs.PlainGraph.{PlainGraph}
 use Rattle.chyp_laws.proofs.Draws.{Draws, draw_s, draws_along, along_edge}
 use Rattle.chyp_laws.specs.Rewriting.{IsRewritten, RewritesAreGraphs, GivesContext}
-use Rattle.chyp_graph.specs.Occurrence.{IsReached, IsOccurrence}
+use Rattle.chyp_pattern.specs.Occurrence.{IsReached, IsOccurrence}
 use Rattle.chyp_laws.proofs.Coloured.{Coloured, colour, named-from}
 use Rattle.chyp_laws.proofs.Context.{HasContext, context_occurrence, other_side}
 use Rattle.chyp_laws.proofs.Image.{Parted, to_at, target, mouth_is}

@@ -1,6 +1,5 @@
 -- A term in a context occurs in the context's graph.
-use Rattle.std.proofs.Common.{ℕ, zero, suc, ◌<◌, ◌≡◌, true, List, [], ◌∷◌, map, length, drop, Some, option_map, slice_get, slice_index, inl, inr, refl, sym}
-use Rattle.std.proofs.Common.{◌∙◌, ap, ap₂, subst, arith}
+use Rattle.std.proofs.Common.{ℕ, zero, suc, ◌<◌, ◌≡◌, true, List, [], ◌∷◌, map, length, drop, Some, option_map, slice_get, slice_index, inl, inr, refl, sym, ◌∙◌, ap, ap₂, subst, arith}
 use Rattle.std.specs.Prelude.{Contains}
 use Rattle.std.specs.List.{AllByRecursion}
 use Rattle.std.proofs.lemmas.List.{drop-map}
@@ -9,20 +8,19 @@ use Rattle.chyp_term.specs.Morphism.{Morphism, dom, cod, IsTyped}
 use Rattle.chyp_term.specs.Perm.{count_from}
 use Rattle.chyp_term.specs.Positions.{is_apart}
 use Rattle.chyp_term.proofs.Permuted.{drop-left}
-use Rattle.chyp_term.proofs.Positions.{slice_get-length, map-map}
+use Rattle.chyp_term.proofs.Positions.{slice_get-length, map-map, some-same}
 use Rattle.chyp_theory.proofs.Renaming.{Producer, In, Target, map-src, map-count, same-src}
 use Rattle.chyp_theory.proofs.Running.{EdgeOf, label_of, src}
 use Rattle.chyp_graph.specs.PlainGraph.{Edge, PlainGraph, renamed}
-use Rattle.chyp_graph.proofs.Rearrangement.{all-count}
+use Rattle.chyp_term.proofs.Rearrangement.{all-count}
 use Rattle.chyp_laws.proofs.Drawing.{IsWire, sort_at, drawn}
-use Rattle.chyp_laws.proofs.Draws.{Draws, ins-size, edge-apart, wire-apart, some-same}
-use Rattle.chyp_graph.specs.Occurrence.{IsReached, first, next, IsOccurrence}
-use Rattle.chyp_graph.proofs.Apart.{all-index, Apart-index}
+use Rattle.chyp_laws.proofs.Draws.{Draws, ins-size, edge-apart, wire-apart}
+use Rattle.chyp_pattern.specs.Occurrence.{IsReached, first, next, IsOccurrence}
+use Rattle.chyp_term.proofs.Apart.{all-index, Apart-index}
 use Rattle.chyp_laws.proofs.Front.{IsEarly, outs_sorts}
-use Rattle.chyp_laws.proofs.Linear.{on_left, on_right}
-use Rattle.chyp_graph.proofs.SameMembers.{contains-all, contains-at}
-use Rattle.chyp_laws.proofs.Placed.{context, Placed, outs, ends, ends_size, rest_ends, source_early, source_apart, split_early, input_at, early_outside}
-use Rattle.chyp_laws.proofs.Placed.{late_outside, inside, edge_inside}
+use Rattle.chyp_theory.proofs.Linear.{on_left, on_right}
+use Rattle.chyp_term.proofs.SameMembers.{contains-all, contains-at}
+use Rattle.chyp_laws.proofs.Placed.{context, Placed, outs, ends, ends_size, rest_ends, source_early, source_apart, split_early, input_at, early_outside, late_outside, inside, edge_inside}
 
 module _ {K : List Sort} {b a l : Morphism} {lG g : PlainGraph} (ty : IsTyped (context K b a l)) {dl : Draws l lG} {es ws : List ℕ}
     (p : Placed K b a l lG g dl es ws) where

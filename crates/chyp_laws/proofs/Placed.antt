@@ -1,6 +1,6 @@
 -- A term in a context, in a graph.
-use Rattle.std.proofs.Common.{ℕ, ◌+◌, ◌<◌, ◌≡◌, true, not, List, map, length, take, drop, Option, Some, None, slice_index, inl, inr, refl, sym, ◌∙◌, ap, subst}
-use Rattle.std.proofs.Common.{arith, length-append, length-drop, take-append-drop, zero-add}
+use Rattle.std.proofs.Common.{ℕ, ◌+◌, ◌<◌, ◌≡◌, true, not, List, map, length, take, drop, Option, Some, None, slice_index, inl, inr, refl, sym, ◌∙◌, ap, subst, arith, length-append}
+use Rattle.std.proofs.Common.{length-drop, take-append-drop, zero-add}
 use Rattle.std.specs.List.{AllByRecursion}
 use Rattle.chyp_base.specs.declared.sort.Sort.{Sort}
 use Rattle.chyp_term.specs.Derivation.{identity}
@@ -18,9 +18,9 @@ use Rattle.chyp_theory.proofs.Running.{EdgeOf, label_of, run, src}
 use Rattle.chyp_graph.specs.PlainGraph.{PlainGraph}
 use Rattle.chyp_laws.proofs.Drawing.{IsWire}
 use Rattle.chyp_laws.proofs.Draws.{Draws, ins-size, edge-below, edge-apart, wire-apart}
-use Rattle.chyp_graph.proofs.Apart.{Apart, Apart-split, all-split, all-index}
+use Rattle.chyp_term.proofs.Apart.{Apart, Apart-split, all-split, all-index}
 use Rattle.chyp_laws.proofs.Front.{IsEarly, front_linear, front_early}
-use Rattle.chyp_graph.proofs.SameMembers.{none-not}
+use Rattle.chyp_term.proofs.SameMembers.{none-not}
 
 -- x in the context of b before it, of a behind it, and of the wires K beside it
 abbrev pub context : List Sort → Morphism → Morphism → Morphism → Morphism

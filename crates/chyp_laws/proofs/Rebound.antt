@@ -1,6 +1,6 @@
 -- The wires of a context where another term is put in.
-use Rattle.std.proofs.Common.{ℕ, suc, ◌+◌, ◌<◌, ◌≡◌, true, List, [], ◌∷◌, ◌++◌, map, length, take, drop, filter, min, slice_index, inl, inr, refl, sym, ◌∙◌, ap}
-use Rattle.std.proofs.Common.{ap₂, subst, arith, length-append, length-take}
+use Rattle.std.proofs.Common.{ℕ, suc, ◌+◌, ◌<◌, ◌≡◌, true, List, [], ◌∷◌, ◌++◌, map, length, take, drop, filter, min, slice_index, inl, inr, refl, sym, ◌∙◌, ap, ap₂, subst, arith, length-append}
+use Rattle.std.proofs.Common.{length-take}
 use Rattle.std.specs.List.{AllByRecursion}
 use Rattle.std.proofs.lemmas.List.{length-map, map-append, take-map, drop-map, get_or-map}
 use Rattle.chyp_base.specs.declared.sort.Sort.{Sort}
@@ -13,14 +13,13 @@ use Rattle.chyp_theory.proofs.Congruence.{length-run}
 use Rattle.chyp_theory.proofs.Renaming.{Producer, In, Target, map-run, map-src, same-run, same-src}
 use Rattle.chyp_theory.proofs.Running.{EdgeOf, label_of, run, src}
 use Rattle.chyp_graph.specs.PlainGraph.{PlainGraph}
-use Rattle.chyp_graph.proofs.Rearrangement.{map-all}
+use Rattle.chyp_term.proofs.Rearrangement.{map-all}
 use Rattle.chyp_laws.proofs.Draws.{Draws, ins-size, wire-apart}
-use Rattle.chyp_graph.specs.Replacement.{kept_wires, bound_at, rebound}
-use Rattle.chyp_graph.proofs.Apart.{Apart, place-of_index, place-of_none, map-by_index, all-mapped}
+use Rattle.chyp_pattern.specs.Replacement.{kept_wires, bound_at, rebound}
+use Rattle.chyp_term.proofs.Apart.{Apart, place-of_index, place-of_none, map-by_index, all-mapped}
 use Rattle.chyp_laws.proofs.Front.{IsEarly, low_run}
-use Rattle.chyp_laws.proofs.Linear.{on_left, on_right, is_linear}
-use Rattle.chyp_laws.proofs.Placed.{context, Placed, outs, ends, outs_size, ends_size, rest_ends, source_early, source_apart, split_early, early_outside}
-use Rattle.chyp_laws.proofs.Placed.{late_outside, inside, end_inside}
+use Rattle.chyp_theory.proofs.Linear.{on_left, on_right, is_linear}
+use Rattle.chyp_laws.proofs.Placed.{context, Placed, outs, ends, outs_size, ends_size, rest_ends, source_early, source_apart, split_early, early_outside, late_outside, inside, end_inside}
 
 pub all-from_index : (P : ℕ → Type 0) (xs : List ℕ) → ((i : ℕ) → i < length xs → P (slice_index xs i)) → AllByRecursion P xs
 all-from_index P [] f = tt

@@ -1,6 +1,6 @@
 -- The replaced graph is that of the context with the other term in it: its wires.
-use Rattle.std.proofs.Common.{ℕ, ◌+◌, ◌-◌, ◌<◌, ◌≤◌, ◌≡◌, true, cond, ltb, List, ◌++◌, length, take, filter, Option, Some, None, slice_get, slice_index, ◌⊎◌}
-use Rattle.std.proofs.Common.{inl, inr, refl, sym, ◌∙◌, ap, subst, arith, length-append, take-append-drop, zero-add, lt-ltb, le-ltb}
+use Rattle.std.proofs.Common.{ℕ, ◌+◌, ◌-◌, ◌<◌, ◌≤◌, ◌≡◌, true, cond, ltb, List, ◌++◌, length, take, filter, Option, Some, None, slice_get, slice_index, ◌⊎◌, inl, inr, refl, sym, ◌∙◌}
+use Rattle.std.proofs.Common.{ap, subst, arith, length-append, take-append-drop, zero-add, lt-ltb, le-ltb}
 use Rattle.std.specs.List.{AllByRecursion}
 use Rattle.std.proofs.lemmas.Bool.{cases_lt}
 use Rattle.chyp_base.specs.declared.sort.Sort.{Sort}
@@ -16,13 +16,13 @@ use Rattle.chyp_theory.proofs.Renaming.{Producer, In, Target}
 use Rattle.chyp_theory.proofs.Running.{EdgeOf}
 use Rattle.chyp_graph.specs.PlainGraph.{PlainGraph}
 use Rattle.chyp_graph.proofs.Inner.{kept-back, Kept}
-use Rattle.chyp_graph.proofs.Rearrangement.{all-count}
+use Rattle.chyp_term.proofs.Rearrangement.{all-count}
 use Rattle.chyp_laws.proofs.Drawing.{IsWire, sort_at}
 use Rattle.chyp_laws.proofs.Draws.{Draws, ins-size, wire-apart}
-use Rattle.chyp_graph.specs.Replacement.{kept_wires, replaced}
-use Rattle.chyp_graph.proofs.Apart.{all-index, all-split}
+use Rattle.chyp_pattern.specs.Replacement.{kept_wires, replaced}
+use Rattle.chyp_term.proofs.Apart.{all-index, all-split}
 use Rattle.chyp_laws.proofs.Front.{IsEarly}
-use Rattle.chyp_laws.proofs.Linear.{all-run}
+use Rattle.chyp_theory.proofs.Linear.{all-run}
 use Rattle.chyp_laws.proofs.Occurs.{end_sort}
 use Rattle.chyp_laws.proofs.Outer.{IsOuter, outer, outer_outer, outer_is, early_outer, outer_valid, outer_sort, none-all}
 use Rattle.chyp_laws.proofs.Placed.{context, Placed, outs, ends, ends_size, split_early, outside, mid_inside}

@@ -17,7 +17,7 @@ use Rattle.chyp_graph.proofs.Inner.{kept-back}
 use Rattle.chyp_laws.proofs.Drawing.{drawn}
 use Rattle.chyp_laws.proofs.Draws.{Draws, edge-below}
 use Rattle.chyp_term.proofs.Permuted.{get-map}
-use Rattle.chyp_graph.specs.Replacement.{replaced}
+use Rattle.chyp_pattern.specs.Replacement.{replaced}
 use Rattle.chyp_laws.proofs.Placed.{context, Placed, edge_inside, edge_outside}
 use Rattle.chyp_laws.proofs.Rebound.{size, to_in, to_out, new_wire, front_sources, late_sources, new_sources, new_outputs}
 use Rattle.chyp_laws.proofs.Replaced.{wires}

@@ -7,8 +7,8 @@ use Rattle.chyp_term.specs.Derivation.{identity, Derives, IsEquation}
 use Rattle.chyp_term.specs.Rewriting.{RewritesInContext}
 use Rattle.chyp_graph.specs.GraphOf.{graph_of}
 use Rattle.chyp_graph.specs.Isomorphism.{Isomorphic}
-use Rattle.chyp_graph.specs.Occurrence.{IsOccurrence}
-use Rattle.chyp_graph.specs.Replacement.{replaced}
+use Rattle.chyp_pattern.specs.Occurrence.{IsOccurrence}
+use Rattle.chyp_pattern.specs.Replacement.{replaced}
 
 -- the context that an occurrence gives, one for all u: by the laws t is the context of l, and each u whose graph is the
 -- replaced one is the context of r

@@ -16,11 +16,11 @@ ghost use Rattle.chyp_term.specs.Rewriting.{RewritesInContext};
 ghost use Rattle.chyp_term.specs.Term.{morphism_of};
 ghost use Rattle.chyp_graph.specs.GraphOf.{graph_of};
 ghost use Rattle.chyp_graph.specs.Isomorphism.{Isomorphic};
-ghost use Rattle.chyp_graph.specs.Occurrence.{IsOccurrence};
+ghost use Rattle.chyp_pattern.specs.Occurrence.{IsOccurrence};
 ghost use Rattle.chyp_laws.specs.Laws.{DerivationsAreIsomorphisms, GraphsOfTermsAreValid, IsomorphismsAreDerivations, LawsAreDecided};
 ghost use Rattle.chyp_laws.specs.Rewriting.{GivesContext, IsRewritten, RewritesAreDecided, RewritesAreGraphs};
 
-use chyp_graph::Occurrence;
+use chyp_pattern::Occurrence;
 use chyp_term::Term;
 
 /// Terms with a derivation by the monoidal laws have isomorphic graphs.

@@ -1,6 +1,6 @@
 -- An occurrence is known by the images of the anchors of the components, and so there are no more occurrences than placements.
-use Rattle.std.proofs.Common.{ℕ, zero, suc, ◌+◌, ◌*◌, ◌<◌, ◌≤◌, ◌≡◌, true, false, List, [], ◌∷◌, ◌++◌, map, flat_map, length, Option, Some, option_map}
-use Rattle.std.proofs.Common.{slice_get, slice_index, length-append, ◌⊎◌, inl, inr, refl, sym, ◌∙◌, ap, ap₂, subst, arith}
+use Rattle.std.proofs.Common.{[], ℕ, zero, suc, ◌+◌, ◌*◌, ◌<◌, ◌≤◌, ◌≡◌, true, false, List, ◌∷◌, ◌++◌, map, flat_map, length, Some, option_map, slice_get, slice_index, length-append, ◌⊎◌}
+use Rattle.std.proofs.Common.{inl, inr, refl, sym, ◌∙◌, ap, ap₂, subst, arith}
 use Rattle.std.specs.Prelude.{Contains}
 use Rattle.std.specs.List.{AllByRecursion}
 use Rattle.std.proofs.lemmas.Bool.{cases_Bool, cases_eq, cases_lt}
@@ -8,30 +8,24 @@ use Rattle.std.proofs.lemmas.List.{length-map, map-append}
 use Rattle.chyp_term.specs.Perm.{IsPermutation}
 use Rattle.chyp_term.specs.Positions.{is_apart}
 use Rattle.chyp_term.proofs.Permuted.{found}
-use Rattle.chyp_term.proofs.Positions.{slice_get-length}
-use Rattle.chyp_graph.specs.Component.{AreAnchors, AreJoined, AreThose, IsBare, IsFirstEdge, IsPortOf, same, next}
-use Rattle.chyp_graph.specs.Pattern.{IsPattern, Parts}
+use Rattle.chyp_term.proofs.Positions.{slice_get-length, map-id, some-same}
+use Rattle.chyp_term.proofs.Members.{Member, flat-member, get-member, member-flat, member-get, member-left, member-map, member-right, member-split, Contains-member, member-Contains}
+use Rattle.chyp_term.proofs.Rearrangement.{permutation-Rearr}
+use Rattle.chyp_term.proofs.Apart.{Apart, Apart-split, Rearr-Apart, map-by_index, numbers_apart}
+use Rattle.chyp_term.proofs.Ordered.{Sorted-with, pigeonhole, all-get, get-sorted}
+use Rattle.chyp_term.proofs.SameMembers.{all-member, image-contains, member-all}
+use Rattle.chyp_pattern.specs.Component.{AreAnchors, AreJoined, AreThose, IsBare, IsFirstEdge, IsPortOf, same, next}
+use Rattle.chyp_pattern.specs.Pattern.{IsPattern, Parts}
 use Rattle.chyp_graph.specs.PlainGraph.{Edge, PlainGraph, renamed, sources_of, targets_of}
 use Rattle.chyp_graph.specs.Validity.{IsValid}
-use Rattle.chyp_graph.specs.declared.anchor.Anchor.{Anchor}
-use Rattle.chyp_graph.specs.declared.anchor.Anchor.TheVariants.{Edge as AtEdge, Wire as AtWire}
-use Rattle.chyp_graph.proofs.Equivalence.{map-id}
-use Rattle.chyp_graph.proofs.Members.{Member, flat-member, get-member, member-flat, member-get, member-left, member-map, member-right, member-split}
-use Rattle.chyp_graph.proofs.Ports.{Contains-member, member-Contains}
-use Rattle.chyp_graph.proofs.Rearrangement.{permutation-Rearr}
-use Rattle.chyp_match.specs.Placements.{AreCounts, IsThere, MayBegin, product}
+use Rattle.chyp_pattern.specs.declared.anchor.Anchor.{Anchor}
+use Rattle.chyp_pattern.specs.declared.anchor.Anchor.TheVariants.{Edge as AtEdge, Wire as AtWire}
+use Rattle.chyp_pattern.specs.Occurrence.{IsOccurrence}
+use Rattle.chyp_pattern.specs.Occurrences.{AreOccurrences, IsBefore}
+use Rattle.chyp_pattern.specs.declared.occurrence.Occurrence.{Occurrence}
+use Rattle.chyp_pattern.proofs.Lexicographic.{less-anti}
+use Rattle.chyp_pattern.specs.Placements.{AreCounts, IsThere, MayBegin, product}
 use Rattle.chyp_match.proofs.Counting.{anchor-there}
-use Rattle.chyp_graph.specs.Occurrence.{IsOccurrence}
-use Rattle.chyp_graph.specs.Occurrences.{AreOccurrences, IsBefore}
-use Rattle.chyp_graph.specs.declared.occurrence.Occurrence.{Occurrence}
-use Rattle.chyp_graph.proofs.Apart.{Apart, Apart-split, Rearr-Apart, map-by_index, numbers_apart}
-use Rattle.chyp_graph.proofs.Ordered.{Sorted-with, pigeonhole, all-get, item-contains, get-sorted, less-anti}
-use Rattle.chyp_graph.proofs.SameMembers.{all-member, image-contains, member-all}
-
--- ## lists
-
-some-same : {A : Type 0} (x y : A) → ◌≡◌ {A = Option A} (Some x) (Some y) → x ≡ y
-some-same x y e = cc
 
 -- maps that give the same list give the same of each item
 same-on : {A B : Type 0} (f g : A → B) (xs : List A) (x : A) → map f xs ≡ map g xs → Member x xs → f x ≡ g x
@@ -247,7 +241,7 @@ occurrences_bounded l g counts os pattern v t are =
     (λ i a e. begins l.graph g o (occurs o m) a (anchor-there l.graph l.anchors pattern.anchors i a e)))))
   where
     occurs : (o : Occurrence) → Member o os → IsOccurrence l.graph g o.edges o.wires
-    occurs o m = let f = are.members o in f.0 (item-contains os o m)
+    occurs o m = let f = are.members o in f.0 (member-Contains os o m)
 
     differ : (a b : Occurrence) → IsOccurrence l.graph g a.edges a.wires → IsOccurrence l.graph g b.edges b.wires → IsBefore a b
         → ¬ (map (image_at a) l.anchors ≡ map (image_at b) l.anchors)

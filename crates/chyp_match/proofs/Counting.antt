@@ -1,19 +1,20 @@
 -- Counting edges and wires one by one, and the product of the counts.
-use Rattle.std.proofs.Common.{ℕ, zero, suc, ◌+◌, ◌*◌, ◌<◌, ◌≤◌, ◌≡◌, min, List, [], ◌∷◌, ◌++◌, length, take, map, Some, slice_get, length-append, mul_assoc, mul-suc, ◌⊎◌, inl, inr, refl, sym, ◌∙◌, ap, subst, arith}
+use Rattle.std.proofs.Common.{[], ℕ, zero, suc, ◌+◌, ◌*◌, ◌<◌, ◌≤◌, ◌≡◌, min, List, ◌∷◌, ◌++◌, length, take, map, Some, slice_get, length-append, mul_assoc, mul-suc, ◌⊎◌, inl, inr, refl}
+use Rattle.std.proofs.Common.{sym, ◌∙◌, ap, subst, arith}
 use Rattle.std.proofs.lemmas.Bool.{cases_lt}
 use Rattle.std.proofs.lemmas.List.{take_all}
-use Rattle.chyp_graph.specs.Pattern.{Parts}
 use Rattle.chyp_base.specs.declared.sort.Sort.{Sort}
 use Rattle.chyp_term.proofs.Positions.{slice_get-length}
+use Rattle.chyp_term.proofs.Members.{Member, get-member, map-member, member-split, member-Contains}
+use Rattle.chyp_term.proofs.Slices.{take-suc}
+use Rattle.chyp_pattern.specs.Pattern.{Parts}
 use Rattle.chyp_graph.specs.declared.edge_part.EdgePart.{EdgePart}
-use Rattle.chyp_graph.specs.Component.{AreAnchors}
+use Rattle.chyp_pattern.specs.Component.{AreAnchors}
 use Rattle.chyp_graph.specs.PlainGraph.{PlainGraph}
-use Rattle.chyp_graph.specs.declared.anchor.Anchor.{Anchor}
-use Rattle.chyp_graph.specs.declared.anchor.Anchor.TheVariants.{Edge, Wire}
-use Rattle.chyp_graph.proofs.Anchoring.{AreThoseBelow, those-end, those-none, those-push, those-skip}
-use Rattle.chyp_graph.proofs.Members.{Member, get-member, map-member, member-split}
-use Rattle.chyp_graph.proofs.Ports.{member-Contains, take-suc}
-use Rattle.chyp_match.specs.Placements.{ArePlacements, AreCounts, BeginAlike, IsCount, IsKnownBefore, IsNamed, IsOfSort, IsThere, MayBegin, product}
+use Rattle.chyp_pattern.specs.declared.anchor.Anchor.{Anchor}
+use Rattle.chyp_pattern.specs.declared.anchor.Anchor.TheVariants.{Edge, Wire}
+use Rattle.chyp_pattern.proofs.Anchoring.{AreThoseBelow, those-end, those-push, those-skip}
+use Rattle.chyp_pattern.specs.Placements.{ArePlacements, AreCounts, BeginAlike, IsCount, IsKnownBefore, IsNamed, IsOfSort, IsThere, MayBegin, product}
 
 -- ## counting
 
@@ -23,9 +24,6 @@ pub record IsCountBelow (P : ℕ → Type 0) (n count : ℕ) : Type 0 where
   pub are : AreThoseBelow P n those
   pub is : length those ≡ count
   pub few : count ≤ n
-
-pub count-none : (P : ℕ → Type 0) → IsCountBelow P 0 0
-count-none P = record { those = []; are = those-none P; is = refl; few = omega arith }
 
 pub count-push : (P : ℕ → Type 0) (n count : ℕ) → IsCountBelow P n count → P n → IsCountBelow P (n + 1) (count + 1)
 count-push P n count c p =
@@ -130,11 +128,6 @@ product-more l g k n m r a at t c is =
 
 pub product-end : (l : Parts) (g : PlainGraph) (k n : ℕ) → length l.anchors ≤ k → IsProductOf l g k n → ArePlacements l g n
 product-end l g k n b t = record { counts = t.counts; are = subst (λ others. AreCounts l.graph g others t.counts) (take_all k l.anchors b) t.are; is = t.is }
-
-pub get-some : {A : Type 0} (xs : List A) (i : ℕ) → i < length xs → (x : A) × (slice_get xs i ≡ Some x)
-get-some [] i h = absurd (omega arith)
-get-some (x ∷ xs) zero h = (x, refl)
-get-some (x ∷ xs) (suc i) h = get-some xs i (omega arith)
 
 pub known-none : (l : Parts) (g : PlainGraph) (n : ℕ) → IsKnownBefore l g 0 n
 known-none l g n j a e h = absurd (omega arith)

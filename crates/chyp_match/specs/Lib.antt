@@ -1,2 +1,1 @@
-pub mod Placements
 pub mod Occurring

@@ -2,10 +2,10 @@
 use Rattle.std.specs.Prelude.{ℕ, ◌≤◌, ◌≡◌, List, length}
 use Rattle.chyp_graph.specs.PlainGraph.{PlainGraph}
 use Rattle.chyp_graph.specs.Validity.{IsValid}
-use Rattle.chyp_graph.specs.Pattern.{IsPattern, Parts}
-use Rattle.chyp_match.specs.Placements.{AreCounts, product}
-use Rattle.chyp_graph.specs.declared.occurrence.Occurrence.{Occurrence}
-use Rattle.chyp_graph.specs.Occurrences.{AreOccurrences}
+use Rattle.chyp_pattern.specs.Pattern.{IsPattern, Parts}
+use Rattle.chyp_pattern.specs.Placements.{AreCounts, product}
+use Rattle.chyp_pattern.specs.declared.occurrence.Occurrence.{Occurrence}
+use Rattle.chyp_pattern.specs.Occurrences.{AreOccurrences}
 
 -- there is one list of the occurrences of l in g, and only one
 abbrev pub OccurrencesAreListed : Type 0

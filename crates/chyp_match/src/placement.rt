@@ -1,9 +1,10 @@
 // How many placements a pattern has in a graph.
 ghost use Rattle.std.specs.Prelude.{◌<◌, ◌+◌, IsTrue, length};
-ghost use Rattle.chyp_match.specs.Placements.{ArePlacements, BeginAlike, IsCount, IsKnownBefore, IsNamed, IsOfSort, IsThere, MayBegin};
+ghost use Rattle.chyp_pattern.specs.Placements.{ArePlacements, BeginAlike, IsCount, IsKnownBefore, IsNamed, IsOfSort, IsThere, MayBegin};
 
 use chyp_base::{Name, Sort};
-use chyp_graph::{Anchor, EdgeId, Graph, Pattern, WireId};
+use chyp_graph::{EdgeId, Graph, WireId};
+use chyp_pattern::{Anchor, Pattern};
 
 /// The number of placements of the pattern in the graph, or 2^64 - 1 where there are more: the
 /// product, over the components of the pattern, of the number of edges with the name of the

@@ -1,6 +1,7 @@
 -- What is decided: equality of lists and of sorts, and whether some list of numbers has a decided property.
-use Rattle.std.proofs.Common.{ℕ, zero, suc, ◌<◌, ◌≤◌, ◌≡◌, List, [], ◌∷◌, length, ◌⊎◌, inl, inr, refl, sym, ap, ap₂, subst, arith}
+use Rattle.std.proofs.Common.{[], ℕ, zero, suc, ◌<◌, ◌≤◌, ◌≡◌, List, ◌∷◌, length, ◌⊎◌, inl, inr, refl, sym, ap, ap₂, subst, arith, true, Option, Some, None, Bool, false}
 use Rattle.std.proofs.lemmas.Bool.{cases_eq, cases_lt}
+use Rattle.std.specs.List.{AllByRecursion}
 use Rattle.chyp_base.specs.declared.sort.Sort.{Sort}
 use Rattle.chyp_term.proofs.Permuted.{Under}
 
@@ -117,3 +118,32 @@ decide-sort a b = decided-by (λ e. ap (λ n. record { name = n }) e) (λ e. ap 
 
 pub decide-sorts : (a b : List Sort) → Decided (a ≡ b)
 decide-sorts a b = decide-list decide-sort a b
+
+pub decide-option : {A : Type 0} → ((x y : A) → Decided (x ≡ y)) → (o p : Option A) → Decided (o ≡ p)
+decide-option d None None = inl refl
+decide-option d None (Some y) = inr (λ e. cc)
+decide-option d (Some x) None = inr (λ e. cc)
+decide-option d (Some x) (Some y) = decided-by (λ e. ap (λ z. Some z) e) (λ e. cc) (d x y)
+
+pub decide-all : {A : Type 0} (P : A → Type 0) → ((x : A) → Decided (P x)) → (xs : List A) → Decided (AllByRecursion P xs)
+decide-all P d [] = inl tt
+decide-all P d (x ∷ xs) = decide-both (d x) (decide-all P d xs)
+
+pub decide-true : (b : Bool) → Decided (b ≡ true)
+decide-true true = inl refl
+decide-true false = inr (λ e. cc)
+
+-- some number below the bound has the property, or none has it
+pub search_below : (P : ℕ → Type 0) → ((k : ℕ) → Decided (P k)) → (bound : ℕ) → ((k : ℕ) × (k < bound) × P k) ⊎ ((k : ℕ) → k < bound → P k → ⊥)
+search_below P d zero = inr (λ k h p. omega arith)
+search_below P d (suc bound) = go (search_below P d bound) (d bound)
+  where
+    at : ((k : ℕ) → k < bound → P k → ⊥) → (P bound → ⊥) → (k : ℕ) → k < suc bound → P k → (k ≡ bound) ⊎ (k ≡ bound → ⊥) → ⊥
+    at f n k h p (inl e) = n (subst P e p)
+    at f n k h p (inr e) = f k (omega arith) p
+
+    go : ((k : ℕ) × (k < bound) × P k) ⊎ ((k : ℕ) → k < bound → P k → ⊥) → Decided (P bound)
+        → ((k : ℕ) × (k < suc bound) × P k) ⊎ ((k : ℕ) → k < suc bound → P k → ⊥)
+    go (inl (k, h, p)) r = inl (k, omega arith, p)
+    go (inr f) (inl p) = inl (bound, omega arith, p)
+    go (inr f) (inr n) = inr (λ k h p. at f n k h p (cases_eq k bound))

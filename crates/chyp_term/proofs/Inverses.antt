@@ -1,5 +1,6 @@
 -- Each permutation has an inverse, by the pigeonhole principle; permutations are closed under what the laws do with them.
-use Rattle.std.proofs.Common.{ℕ, zero, suc, ◌+◌, ◌<◌, ◌≤◌, ◌≡◌, true, false, cond, eqb, List, [], ◌∷◌, ◌++◌, map, length, Option, Some, None, option_map, slice_get, slice_index, ◌⊎◌, inl, inr, refl, sym, ◌∙◌, ap, ap₂, subst, arith, length-append, add-zero, zero-add, eq-eqb, ne_eqb, eqb-true}
+use Rattle.std.proofs.Common.{[], ℕ, zero, suc, ◌+◌, ◌<◌, ◌≤◌, ◌≡◌, true, false, cond, eqb, List, ◌∷◌, ◌++◌, map, length, Option, Some, None, option_map, slice_get, slice_index, ◌⊎◌}
+use Rattle.std.proofs.Common.{inl, inr, refl, sym, ◌∙◌, ap, ap₂, subst, arith, length-append, add-zero, zero-add, eq-eqb, ne_eqb, eqb-true}
 use Rattle.std.proofs.lemmas.List.{length-map}
 use Rattle.std.proofs.lemmas.Bool.{cases_eq, cases_Bool, or_cases}
 use Rattle.std.specs.List.{IsDistinct, AllByRecursion, list_any}
@@ -7,7 +8,7 @@ use Rattle.std.proofs.lemmas.Map.Steps.{length-le_from_distinct_below}
 use Rattle.chyp_term.specs.Perm.{IsPermutation, permuted, count_from, shifted, swapped}
 use Rattle.chyp_term.specs.Positions.{place_of}
 use Rattle.chyp_term.proofs.Positions.{slice_get-length, count_from-append}
-use Rattle.chyp_term.proofs.Permuted.{Under, found, get_option, get-permuted, length-permuted, permuted-permuted, permuted-append, permuted-all, permuted-append_left, permuted-shifted, permuted-swapped, permuted-map, length-count_from, Under-count_from, count_from-0}
+use Rattle.chyp_term.proofs.Permuted.{Under, get_option, get-permuted, permuted-all, permuted-swapped, length-count_from, Under-count_from}
 use Rattle.chyp_term.proofs.Closure.{Under-perm, index-get, get-index}
 
 pub get-count : (k n i : ℕ) → i < n → slice_get (count_from k n) i ≡ Some (k + i)
@@ -23,26 +24,9 @@ pub permuted-numbers : (n : ℕ) (p : List ℕ) → Under n p → permuted (coun
 permuted-numbers n [] u = refl
 permuted-numbers n (k ∷ p) u = rw (get-count0 n k u.0) (ap (λ r. k ∷ r) (permuted-numbers n p u.1))
 
-pub Under-permuted : (n : ℕ) (p q : List ℕ) → Under n p → Under (length p) q → Under n (permuted p q)
-Under-permuted n p [] u v = tt
-Under-permuted n p (k ∷ q) u v = let f = found p k v.0 in rw f.1 (at p k f.0 u f.1, Under-permuted n p q u v.1)
-  where
-    at : (p : List ℕ) (k x : ℕ) → Under n p → slice_get p k ≡ Some x → x < n
-    at [] k x u e = cc
-    at (y ∷ p) zero x u e = let q : y ≡ x = cc in subst (λ z. z < n) q u.0
-    at (y ∷ p) (suc k) x u e = at p k x u.1 e
-
 pub Under-append : (n : ℕ) (p q : List ℕ) → Under n p → Under n q → Under n (p ++ q)
 Under-append n [] q u v = v
 Under-append n (k ∷ p) q u v = (u.0, Under-append n p q u.1 v)
-
-pub Under-shifted : (m n : ℕ) (p : List ℕ) → Under n p → Under (m + n) (shifted m p)
-Under-shifted m n [] u = tt
-Under-shifted m n (k ∷ p) u = (let a : k < n = u.0 in omega arith, Under-shifted m n p u.1)
-
-pub Under-more : (m n : ℕ) (p : List ℕ) → m ≤ n → Under m p → Under n p
-Under-more m n [] h u = tt
-Under-more m n (k ∷ p) h u = (let a : k < m = u.0 in omega arith, Under-more m n p h u.1)
 
 pub length-shifted : (m : ℕ) (p : List ℕ) → length (shifted m p) ≡ length p
 length-shifted m p = length-map p (λ k. m + k)
@@ -71,47 +55,6 @@ Undoes-id n = record {
 
 pub permuted-count : {A : Type 0} (xs : List A) (n : ℕ) → length xs ≡ n → permuted xs (count_from 0 n) ≡ xs
 permuted-count xs n h = rw (← h) (permuted-all xs)
-
--- inverses compose
-pub Undoes-compose : {n : ℕ} {p q p' q' : List ℕ} → Undoes n p q → Undoes n p' q' → Undoes n (permuted p p') (permuted q' q)
-Undoes-compose {n} {p} {q} {p'} {q'} u v =
-    let a : Under (length p) p' = subst (λ m. Under m p') (sym u.size) v.under in
-    let b : Under (length q') q = subst (λ m. Under m q) (sym v.back_size) u.back_under in
-    let s : length (permuted p p') ≡ n = length-permuted p p' a ∙ v.size in
-    let t : length (permuted q' q) ≡ n = length-permuted q' q b ∙ u.back_size in
-    record {
-      size = s;
-      back_size = t;
-      under = Under-permuted n p p' u.under a;
-      back_under = Under-permuted n q' q v.back_under b;
-      there = sym (permuted-permuted (permuted p p') q' (subst (λ m. Under m q') (sym s) v.back_under) q)
-          ∙ ap (λ l. permuted l q) (permuted-permuted p p' a q' ∙ ap (permuted p) v.there ∙ permuted-count p n u.size) ∙ u.there;
-      here = sym (permuted-permuted (permuted q' q) p (subst (λ m. Under m p) (sym t) u.under) p')
-          ∙ ap (λ l. permuted l p') (permuted-permuted q' q b p ∙ ap (permuted q') u.here ∙ permuted-count q' n v.back_size) ∙ v.here;
-    }
-
-pub permuted-blocks : (m n : ℕ) (p q p' q' : List ℕ) → length p ≡ m → Under m p' → permuted (p ++ q) (p' ++ shifted m q') ≡ permuted p p' ++ permuted q q'
-permuted-blocks m n p q p' q' h u =
-    permuted-append (p ++ q) p' (shifted m q')
-    ∙ ap₂ (λ x y. x ++ y) (permuted-append_left p q p' (subst (λ k. Under k p') (sym h) u)) (ap (λ k. permuted (p ++ q) (shifted k q')) (sym h) ∙ permuted-shifted p q q')
-
-pub permuted-of-shifted : (m : ℕ) (q r : List ℕ) → Under (length q) r → permuted (shifted m q) r ≡ shifted m (permuted q r)
-permuted-of-shifted m q r u = permuted-map (λ k. m + k) q r u
-
--- inverses stand side by side
-pub Undoes-beside : {m n : ℕ} {p q p' q' : List ℕ} → Undoes m p q → Undoes n p' q' → Undoes (m + n) (p ++ shifted m p') (q ++ shifted m q')
-Undoes-beside {m} {n} {p} {q} {p'} {q'} u v = record {
-  size = length-append p _ ∙ ap₂ (λ x y. x + y) u.size (length-shifted m p' ∙ v.size);
-  back_size = length-append q _ ∙ ap₂ (λ x y. x + y) u.back_size (length-shifted m q' ∙ v.back_size);
-  under = Under-append (m + n) p _ (Under-more m (m + n) p (omega arith) u.under) (Under-shifted m n p' v.under);
-  back_under = Under-append (m + n) q _ (Under-more m (m + n) q (omega arith) u.back_under) (Under-shifted m n q' v.back_under);
-  there = permuted-blocks m n p (shifted m p') q q' u.size u.back_under
-      ∙ ap₂ (λ x y. x ++ y) u.there (permuted-of-shifted m p' q' (subst (λ k. Under k q') (sym v.size) v.back_under) ∙ ap (shifted m) v.there ∙ sym (count_from-0 m n))
-      ∙ ap (λ k. count_from 0 m ++ count_from k n) (sym (zero-add m)) ∙ sym (count_from-append 0 m n);
-  here = permuted-blocks m n q (shifted m q') p p' u.back_size u.under
-      ∙ ap₂ (λ x y. x ++ y) u.here (permuted-of-shifted m q' p' (subst (λ k. Under k p') (sym v.back_size) v.under) ∙ ap (shifted m) v.here ∙ sym (count_from-0 m n))
-      ∙ ap (λ k. count_from 0 m ++ count_from k n) (sym (zero-add m)) ∙ sym (count_from-append 0 m n);
-}
 
 pub Under-swapped : (m n : ℕ) → Under (m + n) (swapped m n)
 Under-swapped m n = Under-append (m + n) (count_from m n) (count_from 0 m) (Under-count_from (m + n) m n (omega arith)) (Under-count_from (m + n) 0 m (omega arith))
@@ -280,3 +223,6 @@ from_perm n p t = (
         get-mapped back 0 n (slice_index p i) w
         ∙ ap (λ x. Some (back x)) (zero-add (slice_index p i))
         ∙ ap Some (t.apart (back (slice_index p i)) i l h (index-get p _ _ f))
+
+pub id_perm : (n : ℕ) → IsPermutation n (count_from 0 n)
+id_perm n = to_perm (Undoes-id n)

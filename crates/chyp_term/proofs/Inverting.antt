@@ -1,13 +1,14 @@
 -- Each permutation has an inverse, by the pigeonhole principle.
-use Rattle.std.proofs.Common.{ℕ, zero, suc, ◌<◌, ◌≤◌, ◌≡◌, true, false, eqb, List, [], ◌∷◌, length, slice_index, ◌⊎◌, inl, inr, refl, sym, ◌∙◌, ap, subst, arith, ne_eqb, eqb-true}
+use Rattle.std.proofs.Common.{[], ℕ, zero, suc, ◌<◌, ◌≤◌, ◌≡◌, true, eqb, List, ◌∷◌, length, slice_index, ◌⊎◌, inl, inr, refl, sym, ◌∙◌, ap, subst, arith, eqb-true}
 use Rattle.std.proofs.lemmas.Bool.{cases_eq, or_cases}
 use Rattle.std.proofs.lemmas.List.{ext_get_or}
 use Rattle.std.proofs.lemmas.Map.Steps.{length-le_from_distinct_below}
-use Rattle.std.specs.List.{IsDistinct, AllByRecursion, list_any}
+use Rattle.std.specs.List.{IsDistinct, list_any}
 use Rattle.chyp_term.specs.Perm.{IsPermutation, IsInverse, count_from}
 use Rattle.chyp_term.proofs.Permuted.{Under, length-permuted, length-count_from}
 use Rattle.chyp_term.proofs.Closure.{Under-from, index-permuted}
 use Rattle.chyp_term.proofs.Counting.{index-count_from}
+use Rattle.chyp_term.proofs.Inverses.{all-apart}
 
 -- no two items are equal
 abbrev pub AreApart : List ℕ → Type 0
@@ -17,15 +18,11 @@ AreApart xs = (i j : ℕ) → i < length xs → j < length xs → slice_index xs
 abbrev pub AreBelow : ℕ → List ℕ → Type 0
 AreBelow n xs = (i : ℕ) → i < length xs → slice_index xs i < n
 
-pub all_apart : (x : ℕ) (xs : List ℕ) → ((i : ℕ) → i < length xs → slice_index xs i ≡ x → ⊥) → AllByRecursion (λ y. eqb x y ≡ false) xs
-all_apart x [] h = tt
-all_apart x (y ∷ xs) h = (ne_eqb x y (λ e. h 0 (omega arith) (sym e)), all_apart x xs (λ i l e. h (suc i) (omega arith) e))
-
 pub distinct : (xs : List ℕ) → AreApart xs → IsDistinct eqb xs
 unfolding IsDistinct
 distinct [] h = tt
 distinct (x ∷ xs) h = (
-  all_apart x xs (λ i l e. let q : suc i ≡ 0 = h (suc i) 0 (omega arith) (omega arith) e in omega arith),
+  all-apart x xs (λ i l e. let q : suc i ≡ 0 = h (suc i) 0 (omega arith) (omega arith) e in omega arith),
   distinct xs (λ i j a b e. let q : suc i ≡ suc j = h (suc i) (suc j) (omega arith) (omega arith) e in omega arith),
 )
 

@@ -8,3 +8,10 @@ pub mod Counting
 pub mod Inverting
 mod Examples
 pub mod Deciding
+pub mod Apart
+pub mod Blocks
+pub mod Members
+pub mod Ordered
+pub mod Rearrangement
+pub mod SameMembers
+pub mod Slices

@@ -1,6 +1,6 @@
 -- How lists are permuted: lengths, items, and permuting twice, side by side and by blocks.
-use Rattle.std.proofs.Common.{ℕ, zero, suc, ◌+◌, ◌<◌, ◌≤◌, ◌≡◌, List, [], ◌∷◌, ◌++◌, map, length, take, drop, Option, Some, None, option_map, slice_get, refl}
-use Rattle.std.proofs.Common.{sym, ◌∙◌, ap, ap₂, arith, add-zero, zero-add, add-suc, suc-add}
+use Rattle.std.proofs.Common.{[], ℕ, zero, suc, ◌+◌, ◌<◌, ◌≤◌, ◌≡◌, List, ◌∷◌, ◌++◌, map, length, take, drop, Option, Some, None, option_map, slice_get, refl, sym, ◌∙◌, ap, ap₂, arith, add-zero}
+use Rattle.std.proofs.Common.{zero-add, add-suc, suc-add}
 use Rattle.std.proofs.lemmas.List.Elements.{filter_map-append}
 use Rattle.std.specs.List.{cons_option}
 use Rattle.chyp_term.specs.Perm.{permuted, count_from, shifted, swapped}
@@ -115,3 +115,15 @@ take-left (x ∷ xs) ys n h = rw (← h) (ap (λ r. x ∷ r) (take-left xs ys (l
 pub drop-left : {A : Type 0} (xs ys : List A) (n : ℕ) → length xs ≡ n → drop n (xs ++ ys) ≡ ys
 drop-left [] ys n h = rw (← h) refl
 drop-left (x ∷ xs) ys n h = rw (← h) (drop-left xs ys (length xs) refl)
+
+pub in_map : {A B : Type 0} (f : A → B) (xs : List A) (k : ℕ) (y : B) → slice_get (map f xs) k ≡ Some y → (x : A) × (slice_get xs k ≡ Some x) × (f x ≡ y)
+in_map f [] k y e = cc
+in_map f (x ∷ xs) zero y e = (x, refl, cc)
+in_map f (x ∷ xs) (suc k) y e = in_map f xs k y e
+
+-- ## isomorphisms make the pairs of the ends
+
+pub map-get : (f : ℕ → ℕ) (xs : List ℕ) (i x : ℕ) → slice_get xs i ≡ Some x → slice_get (map f xs) i ≡ Some (f x)
+map-get f [] i x e = cc
+map-get f (y ∷ xs) zero x e = let q : y ≡ x = cc in ap (λ z. Some (f z)) q
+map-get f (y ∷ xs) (suc i) x e = map-get f xs i x e

@@ -1,10 +1,12 @@
 -- Where numbers stand in lists of numbers, and the numbers below a bound that pass a test.
-use Rattle.std.proofs.Common.{ℕ, zero, suc, ◌+◌, ◌<◌, ◌≤◌, ◌≡◌, Bool, true, false, not, cond, List, [], ◌∷◌, ◌++◌, map, length, filter, Option, Some, None, slice_get, slice_index, ◌⊎◌, inl, inr, refl, sym, ◌∙◌, ap, ap₂, arith, add-zero, zero-add, add-suc, suc-add}
+use Rattle.std.proofs.Common.{[], ℕ, zero, suc, ◌+◌, ◌<◌, ◌≤◌, ◌≡◌, Bool, true, false, not, cond, List, ◌∷◌, ◌++◌, map, length, filter, Option, Some, None, slice_get, slice_index, ◌⊎◌, inl}
+use Rattle.std.proofs.Common.{inr, refl, sym, ◌∙◌, ap, ap₂, arith, add-zero, zero-add, add-suc, suc-add}
 use Rattle.std.proofs.lemmas.List.Elements.{filter-append}
 use Rattle.std.proofs.lemmas.Bool.{cases_lt}
 use Rattle.chyp_term.specs.Perm.{count_from}
 use Rattle.chyp_term.specs.Positions.{place_of, is_there, is_apart}
 use Rattle.chyp_term.proofs.Permuted.{Under, get-append_left, get-append_right}
+use Rattle.chyp_term.proofs.Counting.{count_from-push}
 
 pub apart-none : (ks : List ℕ) (v : ℕ) → is_apart ks v ≡ true → place_of v ks ≡ None
 apart-none ks v e = go (place_of v ks) e
@@ -16,10 +18,6 @@ apart-none ks v e = go (place_of v ks) e
 pub count_from-append : (k m n : ℕ) → count_from k (m + n) ≡ count_from k m ++ count_from (k + m) n
 count_from-append k zero n = ap₂ count_from (sym (add-zero k)) (zero-add n)
 count_from-append k (suc m) n = ap (count_from k) (suc-add m n) ∙ ap (λ r. k ∷ r) (count_from-append (suc k) m n ∙ ap (λ j. count_from (suc k) m ++ count_from j n) (suc-add k m ∙ sym (add-suc k m)))
-
-pub count_from-push : (k n : ℕ) → count_from k (suc n) ≡ count_from k n ++ (k + n) ∷ []
-count_from-push k zero = ap (λ j. j ∷ []) (sym (add-zero k))
-count_from-push k (suc n) = ap (λ r. k ∷ r) (count_from-push (suc k) n ∙ ap (λ j. count_from (suc k) n ++ j ∷ []) (suc-add k n ∙ sym (add-suc k n)))
 
 -- the numbers below n that pass
 abbrev pub upto : (ℕ → Bool) → ℕ → List ℕ
@@ -59,3 +57,10 @@ map-map f g (x ∷ xs) = ap (λ r. f (g x) ∷ r) (map-map f g xs)
 pub map-index : (outs : List ℕ) (k : ℕ) (f : ℕ → ℕ) → ((j : ℕ) → j < length outs → f (k + j) ≡ slice_index outs j) → map f (count_from k (length outs)) ≡ outs
 map-index [] k f h = refl
 map-index (x ∷ outs) k f h = ap₂ (λ y r. y ∷ r) (ap f (sym (add-zero k)) ∙ h 0 (omega arith)) (map-index outs (suc k) f (λ j l. ap f (omega arith) ∙ h (suc j) (omega arith)))
+
+pub map-id : (xs : List ℕ) → map (λ x. x) xs ≡ xs
+map-id [] = refl
+map-id (x ∷ xs) = ap (λ r. x ∷ r) (map-id xs)
+
+pub some-same : {A : Type 0} (x y : A) → ◌≡◌ {A = Option A} (Some x) (Some y) → x ≡ y
+some-same x y e = cc

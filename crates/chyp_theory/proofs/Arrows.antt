@@ -1,12 +1,13 @@
 -- One step of derivation each, from no equation, with the types at hand.
-use Rattle.std.proofs.Common.{ℕ, ◌≡◌, List, [], ◌++◌, length, refl, sym, ◌∙◌, ap, ap₂, subst, length-append}
+use Rattle.std.proofs.Common.{[], ℕ, ◌≡◌, List, ◌++◌, length, refl, sym, ◌∙◌, ap, ap₂, subst, length-append}
 use Rattle.chyp_base.specs.declared.sort.Sort.{Sort}
-use Rattle.chyp_term.specs.Perm.{IsPermutation, permuted, count_from, shifted, swapped}
+use Rattle.chyp_term.specs.Perm.{IsPermutation, permuted, shifted, swapped}
 use Rattle.chyp_term.specs.Morphism.{Morphism, generator, permutation, then, beside, dom, cod, IsTyped}
-use Rattle.chyp_term.specs.Derivation.{identity, empty, swap, then_assoc, then_left, then_right, beside_assoc, beside_right, interchange, perm_then, perm_beside, slide, Derives, same, in_then, by_law}
+use Rattle.chyp_term.specs.Derivation.{identity, empty, swap, then_assoc, then_left, then_right, beside_assoc, beside_right, interchange, perm_then, perm_beside, slide, Derives, same, in_then}
+use Rattle.chyp_term.specs.Derivation.{by_law}
 use Rattle.chyp_term.proofs.Permuted.{permuted-all, permuted-swapped, length-permuted}
 use Rattle.chyp_term.proofs.Closure.{Under-perm, compose_perm, beside_perm}
-use Rattle.chyp_term.proofs.Inverses.{Undoes-id, Undoes-swapped, to_perm}
+use Rattle.chyp_term.proofs.Inverses.{Undoes-swapped, to_perm, id_perm}
 
 abbrev pub Equal : Morphism → Morphism → Type 0
 Equal s t = Derives [] s t
@@ -22,9 +23,6 @@ then_arrow f g = record { typed = (f.typed, g.typed, f.to ∙ sym g.from); from 
 
 pub beside_arrow : {s t : Morphism} {a b c d : List Sort} → Arrow s a b → Arrow t c d → Arrow (beside s t) (a ++ c) (b ++ d)
 beside_arrow f g = record { typed = (f.typed, g.typed); from = ap₂ (λ x y. x ++ y) f.from g.from; to = ap₂ (λ x y. x ++ y) f.to g.to }
-
-pub id_perm : (n : ℕ) → IsPermutation n (count_from 0 n)
-id_perm n = to_perm (Undoes-id n)
 
 pub id_arrow : (a : List Sort) → Arrow (identity a) a a
 id_arrow a = record { typed = id_perm (length a); from = refl; to = permuted-all a }

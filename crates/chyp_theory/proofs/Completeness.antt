@@ -9,11 +9,11 @@ use Rattle.chyp_theory.proofs.Running.{EdgeOf, Label, label_of, src, Alike}
 use Rattle.chyp_term.proofs.Permuted.{Under, permuted-all, permuted-map, length-count_from}
 use Rattle.chyp_term.proofs.Closure.{Under-perm}
 use Rattle.chyp_theory.proofs.Congruence.{Alike-trans, Alike-sym}
-use Rattle.chyp_term.proofs.Inverses.{permuted-numbers}
+use Rattle.chyp_term.proofs.Inverses.{permuted-numbers, id_perm}
 use Rattle.chyp_theory.proofs.Fronts.{Differs, differ}
 use Rattle.chyp_theory.proofs.Renaming.{In, Target}
 use Rattle.chyp_theory.proofs.Soundness.{sound}
-use Rattle.chyp_theory.proofs.Arrows.{Equal, Arrow, then_arrow, beside_arrow, id_perm, id_arrow, perm_arrow, generator_arrow, length-cod, equal-same, equal-perms, equal-perm_beside, in_right}
+use Rattle.chyp_theory.proofs.Arrows.{Equal, Arrow, then_arrow, beside_arrow, id_arrow, perm_arrow, generator_arrow, length-cod, equal-same, equal-perms, equal-perm_beside, in_right}
 use Rattle.chyp_theory.proofs.Layers.{Layered, done, step, layers, arrow_of}
 use Rattle.chyp_theory.proofs.Factoring.{re_to}
 use Rattle.chyp_theory.proofs.Tracking.{Tracked, tracked-same, tracked-chain, tracked-back, tracked-left, tracked-right, tracked-assoc_first, tracked-assoc_second, tracked-assoc_third, tracked-pass}

@@ -7,9 +7,10 @@ use Rattle.chyp_term.specs.Morphism.{Morphism, permutation, then, beside}
 use Rattle.chyp_term.specs.Derivation.{identity, swap, back, chain, in_then, in_beside}
 use Rattle.chyp_term.proofs.Permuted.{Under, permuted-append, permuted-shifted, permuted-left, count_from-0, length-count_from, length-permuted, take-left}
 use Rattle.chyp_term.proofs.Closure.{Under-perm}
-use Rattle.chyp_term.proofs.Inverses.{length-shifted}
+use Rattle.chyp_term.proofs.Inverses.{length-shifted, id_perm}
 use Rattle.chyp_theory.proofs.Fronts.{Differs, differ}
-use Rattle.chyp_theory.proofs.Arrows.{Equal, Arrow, then_arrow, beside_arrow, id_perm, id_arrow, perm_arrow, swap_arrow, equal-same, equal-assoc, equal-left, equal-right, equal-beside_assoc, equal-exchange, equal-slide, equal-perms, equal-perm_beside, in_left, in_right}
+use Rattle.chyp_theory.proofs.Arrows.{Equal, Arrow, then_arrow, beside_arrow, id_arrow, perm_arrow, swap_arrow, equal-same, equal-assoc, equal-left, equal-right, equal-beside_assoc, equal-exchange}
+use Rattle.chyp_theory.proofs.Arrows.{equal-slide, equal-perms, equal-perm_beside, in_left, in_right}
 use Rattle.chyp_theory.proofs.Layers.{arrow_along, along, along_left, equal-ids}
 
 pub re_from : {t : Morphism} {a a' b : List Sort} → a ≡ a' → Arrow t a b → Arrow t a' b

@@ -1,10 +1,10 @@
 -- Induction along a term.
-use Rattle.std.proofs.Common.{ℕ, zero, suc, ◌+◌, ◌<◌, ◌≤◌, ◌≡◌, List, [], ◌∷◌, map, length, take, drop, Option, Some, None, slice_get, inl, inr, refl, subst}
-use Rattle.std.proofs.Common.{arith}
+use Rattle.std.proofs.Common.{[], ℕ, zero, suc, ◌<◌, ◌≡◌, List, ◌∷◌, length, take, drop, Option, Some, None, slice_get, inl, inr, refl, subst, arith}
 use Rattle.std.specs.List.{AllByRecursion, cons_option}
 use Rattle.chyp_term.specs.Morphism.{Morphism, generator, permutation, then, beside, dom}
-use Rattle.chyp_term.specs.Perm.{permuted, count_from}
+use Rattle.chyp_term.specs.Perm.{permuted}
 use Rattle.chyp_term.proofs.Distinct.{all-append}
+use Rattle.chyp_term.proofs.Rearrangement.{all-count}
 use Rattle.chyp_theory.proofs.Running.{EdgeOf, label_of, run, src}
 
 pub all-take : {A : Type 0} (P : A → Type 0) (n : ℕ) (xs : List A) → AllByRecursion P xs → AllByRecursion P (take n xs)
@@ -30,15 +30,10 @@ all-permuted {A = A} P xs (k ∷ p) a = go (slice_get xs k) (λ x e. at P xs k x
     go None f r = r
     go (Some x) f r = (f x refl, r)
 
--- what holds at each number
-pub all-counted : {A : Type 0} (P : A → Type 0) (f : ℕ → A) (k n : ℕ) → ((i : ℕ) → k ≤ i → i < k + n → P (f i)) → AllByRecursion P (map f (count_from k n))
-all-counted P f k zero h = tt
-all-counted P f k (suc n) h = (h k (omega arith) (omega arith), all-counted P f (suc k) n (λ i a b. h i (omega arith) (omega arith)))
-
 -- what holds of all that goes in, and of what an edge makes, holds of what comes out
 pub good_run : {V : Type 0} (t : Morphism) (G : V → Type 0) (mk : EdgeOf t → ℕ → V) (live : List V) → AllByRecursion G live
     → ((e : EdgeOf t) (i : ℕ) → i < length (label_of t e).cod → G (mk e i)) → AllByRecursion G (run t mk live)
-good_run (generator n a b) G mk live h f = all-counted G (mk tt) 0 (length b) (λ i _ l. f tt i (omega arith))
+good_run (generator n a b) G mk live h f = all-count G (mk tt) 0 (length b) (λ i _ l. f tt i (omega arith))
 good_run (permutation a p) G mk live h f = all-permuted G live p h
 good_run (then s t) G mk live h f = good_run t G (λ e. mk (inr e)) _ (good_run s G (λ e. mk (inl e)) live h (λ e. f (inl e))) (λ e. f (inr e))
 good_run (beside s t) G mk live h f =

@@ -6,9 +6,10 @@ use Rattle.chyp_term.specs.Morphism.{Morphism, generator, permutation, then, bes
 use Rattle.chyp_term.specs.Derivation.{identity, empty, swap, same, back, chain, in_then, in_beside}
 use Rattle.chyp_term.proofs.Permuted.{permuted-swapped, count_from-0}
 use Rattle.chyp_term.proofs.Positions.{count_from-append}
-use Rattle.chyp_term.proofs.Inverses.{swapped-swapped}
+use Rattle.chyp_term.proofs.Inverses.{swapped-swapped, id_perm}
 use Rattle.chyp_theory.proofs.Soundness.{sound}
-use Rattle.chyp_theory.proofs.Arrows.{Equal, Arrow, then_arrow, beside_arrow, id_perm, id_arrow, generator_arrow, swap_arrow, equal-same, equal-assoc, equal-left, equal-right, equal-beside_assoc, equal-beside_right, equal-exchange, equal-slide, equal-perms, equal-perm_beside, in_left, in_right}
+use Rattle.chyp_theory.proofs.Arrows.{Equal, Arrow, then_arrow, beside_arrow, id_arrow, generator_arrow, swap_arrow, equal-same, equal-assoc, equal-left, equal-right, equal-beside_assoc, equal-beside_right}
+use Rattle.chyp_theory.proofs.Arrows.{equal-exchange, equal-slide, equal-perms, equal-perm_beside, in_left, in_right}
 
 pub data Layered : Morphism → Type 0 where
   done : (a : List Sort) (p : List ℕ) → Layered (permutation a p)

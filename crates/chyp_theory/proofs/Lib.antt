@@ -20,3 +20,6 @@ pub mod Leaving
 pub mod Closed
 pub mod Through
 pub mod Divide
+pub mod EdgeLists
+pub mod Linear
+pub mod SameOuts

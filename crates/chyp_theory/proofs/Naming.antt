@@ -4,7 +4,8 @@ use Rattle.chyp_base.specs.declared.sort.Sort.{Sort}
 use Rattle.chyp_term.specs.Derivation.{identity, back, chain, in_then, in_beside, by_law, then_left, then_right}
 use Rattle.chyp_term.specs.Morphism.{Morphism, then, beside, dom}
 use Rattle.chyp_term.proofs.Permuted.{permuted-all}
-use Rattle.chyp_theory.proofs.Arrows.{Equal, Arrow, id_arrow, id_perm, equal-same, equal-assoc, equal-exchange}
+use Rattle.chyp_theory.proofs.Arrows.{Equal, Arrow, id_arrow, equal-same, equal-assoc, equal-exchange}
+use Rattle.chyp_term.proofs.Inverses.{id_perm}
 use Rattle.chyp_theory.proofs.Congruence.{Alike-trans, Alike-then, Alike-refl, Alike-sym, Alike-beside}
 use Rattle.chyp_theory.proofs.Running.{EdgeOf, Alike}
 use Rattle.chyp_theory.proofs.Soundness.{assoc, sound, exchange, unit_left, unit_right}

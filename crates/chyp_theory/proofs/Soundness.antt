@@ -1,13 +1,16 @@
 -- Derivable terms are alike: each law is sound.
-use Rattle.std.proofs.Common.{ℕ, ◌+◌, ◌≤◌, ◌≡◌, List, [], ◌++◌, length, take, drop, inl, inr, refl, sym, ◌∙◌, ap, ap₂, subst, arith, length-append, length-take, length-drop, take-append-drop, append_assoc, append-nil}
+use Rattle.std.proofs.Common.{[], ℕ, ◌+◌, ◌≤◌, ◌≡◌, List, ◌++◌, length, take, drop, inl, inr, refl, sym, ◌∙◌, ap, ap₂, subst, arith, length-append, length-take, length-drop, take-append-drop}
+use Rattle.std.proofs.Common.{append_assoc, append-nil}
 use Rattle.std.proofs.lemmas.List.{take-take, drop-drop, drop-take, take_all}
 use Rattle.chyp_base.specs.declared.sort.Sort.{Sort}
-use Rattle.chyp_term.specs.Perm.{IsPermutation, permuted, count_from, shifted, swapped}
+use Rattle.chyp_term.specs.Perm.{IsPermutation, permuted, shifted, swapped}
 use Rattle.chyp_term.specs.Morphism.{Morphism, permutation, then, beside, dom, cod, IsTyped}
-use Rattle.chyp_term.specs.Derivation.{identity, empty, swap, IsLaw, then_assoc, then_left, then_right, beside_assoc, beside_left, beside_right, interchange, perm_then, perm_beside, slide, Derives, same, back, chain, in_then, in_beside, by_law, given}
-use Rattle.chyp_theory.proofs.Running.{run, src, Alike}
+use Rattle.chyp_term.specs.Derivation.{identity, empty, swap, IsLaw, then_assoc, then_left, then_right, beside_assoc, beside_left, beside_right, interchange, perm_then, perm_beside, slide, Derives}
+use Rattle.chyp_term.specs.Derivation.{same, back, chain, in_then, in_beside, by_law, given}
 use Rattle.chyp_term.proofs.Permuted.{Under, permuted-permuted, permuted-append, permuted-all, permuted-append_left, permuted-shifted, permuted-swapped, take-left, drop-left}
 use Rattle.chyp_term.proofs.Closure.{Under-perm}
+use Rattle.chyp_term.proofs.Inverses.{permuted-count}
+use Rattle.chyp_theory.proofs.Running.{run, src, Alike}
 use Rattle.chyp_theory.proofs.Congruence.{length-run, Alike-refl, Alike-sym, Alike-trans, Alike-then, Alike-beside, length-take_dom, length-drop_dom}
 
 unfoldable pub assoc : (a b c : Morphism) → Alike (then (then a b) c) (then a (then b c))
@@ -23,9 +26,6 @@ assoc a b c = record {
   srcs = λ mk live h. elim [ inl (inl e) ↦ refl | inl (inr e) ↦ refl | inr e ↦ refl ];
 }
 
-pub permuted-live : {V : Type 0} (live : List V) (n : ℕ) → length live ≡ n → permuted live (count_from 0 n) ≡ live
-permuted-live live n h = rw (← h) (permuted-all live)
-
 unfoldable pub unit_left : (a : Morphism) → Alike (then (identity (dom a)) a) a
 unit_left a = record {
   doms = refl;
@@ -35,8 +35,8 @@ unit_left a = record {
   to_from = λ e. refl;
   from_to = elim [ inl e ↦ absurd e | inr e ↦ refl ];
   labels = elim [ inl e ↦ absurd e | inr e ↦ refl ];
-  runs = λ mk live h. ap (run a mk) (sym (permuted-live live _ h));
-  srcs = λ mk live h. elim [ inl e ↦ absurd e | inr e ↦ ap (λ l. src a mk l e) (sym (permuted-live live _ h)) ];
+  runs = λ mk live h. ap (run a mk) (sym (permuted-count live _ h));
+  srcs = λ mk live h. elim [ inl e ↦ absurd e | inr e ↦ ap (λ l. src a mk l e) (sym (permuted-count live _ h)) ];
 }
 
 unfoldable pub unit_right : (a : Morphism) → IsTyped a → Alike (then a (identity (cod a))) a
@@ -48,7 +48,7 @@ unit_right a ty = record {
   to_from = λ e. refl;
   from_to = elim [ inl e ↦ refl | inr e ↦ absurd e ];
   labels = elim [ inl e ↦ refl | inr e ↦ absurd e ];
-  runs = λ mk live h. sym (permuted-live _ _ (length-run a ty mk live h));
+  runs = λ mk live h. sym (permuted-count _ _ (length-run a ty mk live h));
   srcs = λ mk live h. elim [ inl e ↦ refl | inr e ↦ absurd e ];
 }
 

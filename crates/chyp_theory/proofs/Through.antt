@@ -1,6 +1,6 @@
 -- What no edge takes passes beside the edges: the wires that a term leaves alone are split off.
-use Rattle.std.proofs.Common.{ℕ, suc, ◌+◌, ◌-◌, ◌<◌, ◌≤◌, ◌≡◌, List, [], ◌∷◌, ◌++◌, map, length, take, ◌⊎◌, inl, inr, refl, sym, ◌∙◌, ap, ap₂, subst, arith}
-use Rattle.std.proofs.Common.{length-append, append_assoc, length-take}
+use Rattle.std.proofs.Common.{ℕ, suc, ◌+◌, ◌-◌, ◌<◌, ◌≤◌, ◌≡◌, List, [], ◌∷◌, ◌++◌, map, length, take, ◌⊎◌, inl, inr, refl, sym, ◌∙◌, ap, ap₂, subst, arith, length-append, append_assoc}
+use Rattle.std.proofs.Common.{length-take}
 use Rattle.std.proofs.lemmas.List.{take-map, append_cancel_left}
 use Rattle.std.proofs.lemmas.Bool.{cases_lt}
 use Rattle.std.specs.List.{AllByRecursion}
@@ -9,10 +9,10 @@ use Rattle.chyp_term.specs.Derivation.{identity, swap, back, chain, in_then, in_
 use Rattle.chyp_term.specs.Morphism.{Morphism, generator, permutation, then, beside}
 use Rattle.chyp_term.specs.Perm.{IsPermutation, permuted, count_from, shifted, swapped}
 use Rattle.chyp_term.proofs.Closure.{Under-perm}
-use Rattle.chyp_term.proofs.Inverses.{permuted-numbers, length-shifted}
+use Rattle.chyp_term.proofs.Inverses.{permuted-numbers, length-shifted, id_perm}
 use Rattle.chyp_term.proofs.Permuted.{Under, permuted-all, permuted-map, length-count_from, length-permuted, permuted-permuted, permuted-shifted, take-left}
-use Rattle.chyp_theory.proofs.Arrows.{Equal, Arrow, then_arrow, beside_arrow, id_arrow, id_perm, swap_arrow, perm_arrow, generator_arrow, equal-same}
-use Rattle.chyp_theory.proofs.Arrows.{equal-assoc, equal-left, equal-beside_assoc, equal-slide, equal-perms, equal-perm_beside, in_left, in_right}
+use Rattle.chyp_theory.proofs.Arrows.{Equal, Arrow, then_arrow, beside_arrow, id_arrow, swap_arrow, perm_arrow, generator_arrow, equal-same, equal-assoc, equal-left, equal-beside_assoc, equal-slide}
+use Rattle.chyp_theory.proofs.Arrows.{equal-perms, equal-perm_beside, in_left, in_right}
 use Rattle.chyp_theory.proofs.Factoring.{Factor, factor, cross, re_from, re_to}
 use Rattle.chyp_theory.proofs.Fronts.{bring, take-permuted}
 use Rattle.chyp_theory.proofs.Layers.{Layered, done, step, layers, along, along_left, equal-ids, arrow_along, first_of_then, second_of_then}

@@ -3,11 +3,12 @@ use Rattle.std.proofs.Common.{◌≡◌, List, inl, inr, refl, sym, ◌∙◌, a
 use Rattle.chyp_base.specs.declared.sort.Sort.{Sort}
 use Rattle.chyp_term.specs.Morphism.{Morphism, then, beside, dom}
 use Rattle.chyp_term.specs.Derivation.{identity, then_left, then_right, back, chain, in_then, in_beside, by_law}
-use Rattle.chyp_theory.proofs.Running.{EdgeOf, Alike}
 use Rattle.chyp_term.proofs.Permuted.{permuted-all}
+use Rattle.chyp_term.proofs.Inverses.{id_perm}
+use Rattle.chyp_theory.proofs.Running.{EdgeOf, Alike}
 use Rattle.chyp_theory.proofs.Congruence.{Alike-refl, Alike-sym, Alike-trans, Alike-then, Alike-beside}
 use Rattle.chyp_theory.proofs.Soundness.{assoc, unit_left, unit_right, exchange, sound}
-use Rattle.chyp_theory.proofs.Arrows.{Equal, Arrow, id_arrow, id_perm, equal-same, equal-assoc, equal-exchange, equal-left, equal-right}
+use Rattle.chyp_theory.proofs.Arrows.{Equal, Arrow, id_arrow, equal-same, equal-assoc, equal-exchange, equal-left, equal-right}
 
 -- s and t are equal by the laws, so that the generator k of s becomes l of t
 pub record Tracked (s t : Morphism) (k : EdgeOf s) (l : EdgeOf t) : Type 1 where
@@ -46,10 +47,6 @@ tracked-right d e f g = record {
 pub tracked-beside_left : {s t u v : Morphism} {k : EdgeOf s} {l : EdgeOf t} → Tracked s t k l → Equal u v → Tracked (beside s u) (beside t v) (inl k) (inl l)
 unfolding Alike-beside
 tracked-beside_left d e = record { equal = in_beside d.equal e; alike = Alike-beside d.alike (sound e).alike; at = ap inl d.at }
-
-pub tracked-beside_right : {s t u v : Morphism} {k : EdgeOf u} {l : EdgeOf v} → Equal s t → Tracked u v k l → Tracked (beside s u) (beside t v) (inr k) (inr l)
-unfolding Alike-beside
-tracked-beside_right d e = record { equal = in_beside d e.equal; alike = Alike-beside (sound d).alike e.alike; at = ap inr e.at }
 
 pub tracked-assoc_first : {s t u : Morphism} {a b c d : List Sort} → Arrow s a b → Arrow t b c → Arrow u c d → (k : EdgeOf s) → Tracked (then (then s t) u) (then s (then t u)) (inl (inl k)) (inl k)
 unfolding assoc

@@ -1,4 +1,4 @@
-use Rattle.chyp_graph.proofs.Listed.{occurrences_listed}
+use Rattle.chyp_pattern.proofs.Listed.{occurrences_listed}
 use Rattle.chyp_match.proofs.Bounding.{occurrences_bounded}
 use Rattle.chyp_match.proofs.occurrences_are_few.Goals as goal
 

@@ -4,7 +4,8 @@ use Rattle.chyp_term.proofs.Positions.{slice_get-length}
 use Rattle.chyp_graph.specs.PlainGraph.{Edge}
 use Rattle.chyp_graph.specs.Removal.{AreDated, IsWritten, live_behind}
 use Rattle.chyp_graph.specs.Rounds.{IsRound}
-use Rattle.chyp_graph.proofs.Ports.{get-is, written-back}
+use Rattle.chyp_term.proofs.Closure.{get-item}
+use Rattle.chyp_term.proofs.Slices.{written-back}
 use Rattle.chyp_graph.proofs.Dating.{dated-more, known-more, least-positive, round-is, rounds-known}
 use Rattle.chyp_graph.proofs.Removing.{sources-within, targets-wires}
 use Rattle.chyp_graph.proofs.dates.rounds_in.Goals as goal
@@ -30,7 +31,7 @@ loop-k-preserved c =
     let dates = c.loop-k.dates.items in
     let e : Edge = record { name = c.edge-edge.result.name.now; sources = c.edge-edge.result.sources.now; targets = c.edge-edge.result.targets.now } in
     let is : k ≡ c.k-item.result = c.k.view_is in
-    let h : slice_get order j ≡ Some k = get-is order j c.k-item.result c.loop-k-test.true c.k-item.is ∙ ap (λ x. Some x) (sym is) in
+    let h : slice_get order j ≡ Some k = get-item order j c.k-item.result c.loop-k-test.true c.k-item.is ∙ ap (λ x. Some x) (sym is) in
     let q : slice_get g.edges k ≡ Some e = c.edge-edge.ensures in
     let few = c.edge_count.ensures.few in
     let count = c.edge_count.ensures.count in

@@ -1,7 +1,9 @@
 use Rattle.std.proofs.Common.{◌∙◌, ◌≡◌, ◌+◌, take, sym, subst, ap, length, All, ◌<◌}
 use Rattle.chyp_graph.specs.Graph.{IsTable}
 use Rattle.chyp_graph.specs.PortTable.{AreNoted}
-use Rattle.chyp_graph.proofs.Ports.{all-is, get-is, table-more, written-back}
+use Rattle.chyp_term.proofs.Slices.{all-is, written-back}
+use Rattle.chyp_term.proofs.Closure.{get-item}
+use Rattle.chyp_graph.proofs.Ports.{table-more}
 use Rattle.chyp_graph.proofs.port_table.producers.Goals as goal
 
 pub note-requires-clause-within : goal.note-requires-clause-within
@@ -24,4 +26,4 @@ loop-k-preserved c =
     let size : length c.note.new.table ≡ length c.loop-k.table.items = n.0 ∙ ap length c.deref_mut.ensures.value in
     let noted = subst (λ l. AreNoted c.loop-k.k e.targets l c.note.new.table) c.deref_mut.ensures.value (subst (λ l. AreNoted c.loop-k.k l c.deref_mut.result.now c.note.new.table) c.as_slice.ensures n) in
     subst (IsTable (λ e. e.targets) (take (c.loop-k.k + 1) c.args.edges.now) c.args.wires) (sym (written-back c.note.new.table c.loop-k.table.items c.loop-k.table.len c.loop-k.table.ok.0 size))
-    (table-more (λ e. e.targets) c.args.edges.now c.loop-k.k e c.args.wires c.loop-k.table.items c.note.new.table (get-is c.args.edges.now c.loop-k.k e c.loop-k-test.true c.index-edges-k.is) c.loop-k.invariant noted)
+    (table-more (λ e. e.targets) c.args.edges.now c.loop-k.k e c.args.wires c.loop-k.table.items c.note.new.table (get-item c.args.edges.now c.loop-k.k e c.loop-k-test.true c.index-edges-k.is) c.loop-k.invariant noted)

@@ -2,7 +2,7 @@ use Rattle.std.proofs.Common.{◌≡◌, ◌<◌, ◌+◌, true, All, length, sy
 use Rattle.chyp_term.specs.Positions.{is_among}
 use Rattle.chyp_graph.specs.PlainGraph.{Edge}
 use Rattle.chyp_graph.specs.Removal.{AreLive, IsRemoval, live_behind}
-use Rattle.chyp_graph.proofs.Ports.{get-is}
+use Rattle.chyp_term.proofs.Closure.{get-item}
 use Rattle.chyp_graph.proofs.Removing.{AreTargetsLive, inputs-made, inputs-wires, removal-end, targets-end, targets-made, targets-more, targets-wires}
 use Rattle.chyp_graph.proofs.removal.order_of.Goals as goal
 use Rattle.chyp_graph.proofs.removal.order_of.Goals.{then-j-len+in_ok-make_all_live-2, else-j-len}
@@ -26,7 +26,7 @@ make_all_live-requires-then-j-len-clause-made c =
     let o = c.loop-j.removal.order.ok.0 in
     let t = c.if-j-len.true in
     let l = c.len.ensures in
-    targets-made c.args.graph.now order c.loop-j.j c.index.result.now e (get-is order c.loop-j.j c.index.result.now (omega arith) c.index.ensures) c.edge.ensures
+    targets-made c.args.graph.now order c.loop-j.j c.index.result.now e (get-item order c.loop-j.j c.index.result.now (omega arith) c.index.ensures) c.edge.ensures
 
 pub loop-j-preserved : goal.loop-j-preserved
 loop-j-preserved c =
@@ -44,7 +44,7 @@ loop-j-preserved c =
           (record {
             removal = m.removal;
             inputs = λ i v h. m.stay v (c.loop-j.invariant.inputs i v h);
-            targets = targets-more g c.loop-j.removal.live.items n.live.items order n.order.items c.loop-j.j w.index.result.now e c.loop-j.invariant.targets (get-is order c.loop-j.j w.index.result.now (omega arith) w.index.ensures) w.edge.ensures m.stay m.live m.order;
+            targets = targets-more g c.loop-j.removal.live.items n.live.items order n.order.items c.loop-j.j w.index.result.now e c.loop-j.invariant.targets (get-item order c.loop-j.j w.index.result.now (omega arith) w.index.ensures) w.edge.ensures m.stay m.live m.order;
           })
       | else-j-len w ↦
           let t = w.if-j-len.false in

@@ -1,7 +1,8 @@
 use Rattle.std.proofs.Common.{◌+◌, ◌∙◌, sym, ap, subst}
 use Rattle.chyp_graph.specs.PlainGraph.{Edge}
 use Rattle.chyp_graph.specs.Removal.{IsSourceless}
-use Rattle.chyp_graph.proofs.Removing.{empty-none, full-some, source-at, sourceless-push, sourceless-skip}
+use Rattle.chyp_term.proofs.Slices.{empty-none, full-some}
+use Rattle.chyp_graph.proofs.Removing.{source-at, sourceless-push, sourceless-skip}
 use Rattle.chyp_graph.proofs.removal.without_sources.Goals as goal
 use Rattle.chyp_graph.proofs.removal.without_sources.Goals.{then-is_empty+in_ok-push, else-is_empty}
 

@@ -1,5 +1,5 @@
 use Rattle.std.proofs.Common.{◌<◌, All, length}
-use Rattle.chyp_graph.proofs.Ports.{all-is}
+use Rattle.chyp_term.proofs.Slices.{all-is}
 use Rattle.chyp_graph.proofs.renumber.push_edges.Goals as goal
 
 pub renumbered-requires : goal.renumbered-requires

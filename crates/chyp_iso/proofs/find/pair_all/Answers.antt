@@ -1,5 +1,5 @@
 use Rattle.std.proofs.Common.{subst}
-use Rattle.chyp_iso.specs.Pairs.{Has}
+use Rattle.chyp_pairs.specs.Pairs.{Has}
 use Rattle.chyp_iso.proofs.Ends.{whole-answer}
 use Rattle.chyp_iso.proofs.Steps.{when-true}
 use Rattle.chyp_iso.proofs.find.pair_all.Goals as goal

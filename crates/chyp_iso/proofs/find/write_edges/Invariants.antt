@@ -1,5 +1,5 @@
 use Rattle.std.proofs.Common.{ℕ, ◌<◌, ◌≡◌, Some, slice_index}
-use Rattle.chyp_iso.specs.Pairs.{edge_there, image}
+use Rattle.chyp_pairs.specs.Pairs.{edge_there, image}
 use Rattle.chyp_iso.proofs.find.write_edges.Given as goal
 
 abbrev pub invariant-loop-e : goal.invariant-loop-e

@@ -1,5 +1,5 @@
 use Rattle.std.proofs.Common.{ℕ, ◌<◌, ◌≡◌, Some, slice_index}
-use Rattle.chyp_iso.specs.Pairs.{wire_there, image}
+use Rattle.chyp_pairs.specs.Pairs.{wire_there, image}
 use Rattle.chyp_iso.proofs.find.write_wires.Given as goal
 
 abbrev pub invariant-loop-v : goal.invariant-loop-v

@@ -1,7 +1,7 @@
 use Rattle.std.proofs.Common.{◌∙◌, Some, ap}
 use Rattle.chyp_iso.proofs.Followed.{Leads-has, Leads-trans}
 use Rattle.chyp_iso.proofs.Lists.{at-place, ends-answer}
-use Rattle.chyp_iso.proofs.PairLists.{get-has}
+use Rattle.chyp_pairs.proofs.PairLists.{get-has}
 use Rattle.chyp_iso.proofs.Steps.{when-true}
 use Rattle.chyp_iso.proofs.follow.follow_pair.Goals as goal
 

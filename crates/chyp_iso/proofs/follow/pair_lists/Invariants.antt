@@ -1,8 +1,8 @@
 use Rattle.std.proofs.Common.{ℕ, ◌<◌, ◌≡◌, Some, slice_get}
 use Rattle.chyp_iso.specs.Pair.{wire_pairs}
-use Rattle.chyp_iso.specs.Pairs.{Has}
+use Rattle.chyp_pairs.specs.Pairs.{Has}
 use Rattle.chyp_iso.specs.Following.{Leads}
-use Rattle.chyp_iso.specs.declared.pair.Pair.TheVariants.{Wires}
+use Rattle.chyp_pairs.specs.declared.pair.Pair.TheVariants.{Wires}
 use Rattle.chyp_iso.proofs.follow.pair_lists.Given as goal
 
 abbrev pub invariant-loop-i : goal.invariant-loop-i

@@ -1,8 +1,8 @@
 use Rattle.std.proofs.Common.{◌∙◌, sym, inl, refl}
-use Rattle.chyp_iso.specs.declared.pair.Pair.TheVariants.{Wires}
+use Rattle.chyp_pairs.specs.declared.pair.Pair.TheVariants.{Wires}
 use Rattle.chyp_iso.specs.Pair.{WiresFit}
 use Rattle.chyp_iso.proofs.Followed.{Leads-one}
-use Rattle.chyp_iso.proofs.PairLists.{has-right}
+use Rattle.chyp_pairs.proofs.PairLists.{has-right}
 use Rattle.chyp_iso.proofs.Steps.{known_wire-answer, sorts-refute, taken_wire-answer, when-false, when-true}
 use Rattle.chyp_iso.proofs.follow.pair_wires.Goals as goal
 

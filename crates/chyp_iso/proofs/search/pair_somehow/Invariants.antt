@@ -1,6 +1,6 @@
 use Rattle.std.proofs.Common.{ℕ, ◌<◌, ◌≡◌, [], ◌∷◌}
 use Rattle.chyp_iso.specs.Following.{Refutes}
-use Rattle.chyp_iso.specs.declared.pair.Pair.TheVariants.{Edges}
+use Rattle.chyp_pairs.specs.declared.pair.Pair.TheVariants.{Edges}
 use Rattle.chyp_iso.proofs.search.pair_somehow.Given as goal
 
 abbrev pub invariant-loop-f : goal.invariant-loop-f

@@ -1,5 +1,5 @@
 use Rattle.std.proofs.Common.{refl, subst, sym}
-use Rattle.chyp_match.specs.Placements.{IsCount, MayBegin}
+use Rattle.chyp_pattern.specs.Placements.{IsCount, MayBegin}
 use Rattle.chyp_match.proofs.Counting.{named-count, sort-count}
 use Rattle.chyp_match.proofs.placement.choices.Goals as goal
 

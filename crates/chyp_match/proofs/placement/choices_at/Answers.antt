@@ -1,5 +1,5 @@
 use Rattle.std.proofs.Common.{◌-◌, refl, subst, sym, arith}
-use Rattle.chyp_match.specs.Placements.{BeginAlike, IsThere}
+use Rattle.chyp_pattern.specs.Placements.{BeginAlike, IsThere}
 use Rattle.chyp_match.proofs.Counting.{alike-count, anchor-there, known-next}
 use Rattle.chyp_match.proofs.placement.choices_at.Goals as goal
 

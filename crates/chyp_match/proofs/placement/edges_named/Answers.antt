@@ -1,5 +1,5 @@
 use Rattle.std.proofs.Common.{◌≡◌, ◌∙◌, ◌+◌, refl, subst, sym, arith, true≢false}
-use Rattle.chyp_match.specs.Placements.{IsNamed}
+use Rattle.chyp_pattern.specs.Placements.{IsNamed}
 use Rattle.chyp_match.proofs.Counting.{IsCountBelow, count-end, count-push, count-skip, named-below, named-one}
 use Rattle.chyp_match.proofs.placement.edges_named.Goals as goal
 use Rattle.chyp_match.proofs.placement.edges_named.Goals.{then-eq, else-eq}

@@ -1,4 +1,4 @@
-use Rattle.chyp_match.specs.Placements.{IsNamed}
+use Rattle.chyp_pattern.specs.Placements.{IsNamed}
 use Rattle.chyp_match.proofs.Counting.{IsCountBelow}
 use Rattle.chyp_match.proofs.placement.edges_named.Given as goal
 

@@ -1,5 +1,6 @@
 use Rattle.std.proofs.Common.{◌<◌, length, refl, subst, arith}
-use Rattle.chyp_match.proofs.Counting.{get-some, known-none, product-end, product-more, product-none}
+use Rattle.chyp_term.proofs.Permuted.{found}
+use Rattle.chyp_match.proofs.Counting.{known-none, product-end, product-more, product-none}
 use Rattle.chyp_match.proofs.placement.placements.Goals as goal
 
 pub loop-k-preserved : goal.loop-k-preserved
@@ -7,7 +8,7 @@ loop-k-preserved c =
     let l = c.args.pattern.now in
     let k = c.loop-k.k in
     let there : k < length l.anchors = subst (λ n. k < n) c.component_count-k-end.ensures c.loop-k-test.true in
-    let a = get-some l.anchors k there in
+    let a = found l.anchors k there in
     record {
       product = product-more l c.args.graph.now k c.loop-k.product c.choices_at-count.result c.saturating_mul-product.result a.0 a.1 c.loop-k.invariant.product (c.choices_at-count.ensures k a.0 refl a.1) c.saturating_mul-product.ensures;
       known = c.choices_at-count.ensures;

@@ -1,4 +1,4 @@
-use Rattle.chyp_match.specs.Placements.{IsKnownBefore}
+use Rattle.chyp_pattern.specs.Placements.{IsKnownBefore}
 use Rattle.chyp_match.proofs.Counting.{IsProductOf}
 use Rattle.chyp_match.proofs.placement.placements.Given as goal
 

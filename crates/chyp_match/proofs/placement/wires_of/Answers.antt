@@ -1,5 +1,5 @@
 use Rattle.std.proofs.Common.{◌≡◌, ◌∙◌, ◌+◌, refl, subst, sym, arith, true≢false, ap, Some}
-use Rattle.chyp_match.specs.Placements.{IsOfSort}
+use Rattle.chyp_pattern.specs.Placements.{IsOfSort}
 use Rattle.chyp_match.proofs.Counting.{IsCountBelow, count-end, count-push, count-skip, sort-below, sort-one}
 use Rattle.chyp_match.proofs.placement.wires_of.Goals as goal
 use Rattle.chyp_match.proofs.placement.wires_of.Goals.{then-eq, else-eq}

@@ -1,4 +1,4 @@
-use Rattle.chyp_match.specs.Placements.{IsOfSort}
+use Rattle.chyp_pattern.specs.Placements.{IsOfSort}
 use Rattle.chyp_match.proofs.Counting.{IsCountBelow}
 use Rattle.chyp_match.proofs.placement.wires_of.Given as goal
 

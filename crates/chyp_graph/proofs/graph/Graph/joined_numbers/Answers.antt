@@ -1,6 +1,7 @@
 use Rattle.std.proofs.Common.{◌∙◌, ◌<◌, ◌++◌, ◌∷◌, [], ap, arith, length}
 use Rattle.chyp_graph.proofs.Numbering.{behind-input, behind-other, behind-few}
-use Rattle.chyp_graph.proofs.Ports.{among-end, not-among_end, index-is}
+use Rattle.chyp_graph.proofs.Ports.{among-end, not-among_end}
+use Rattle.chyp_term.proofs.Slices.{index-is}
 use Rattle.chyp_graph.proofs.graph.Graph.joined_numbers.Goals as goal
 use Rattle.chyp_graph.proofs.graph.Graph.joined_numbers.Goals.{then-is_none+in_ok-push, else-is_none+in_ok-push-2+in_ok-share+in_ok-push-3}
 

@@ -1,7 +1,8 @@
 use Rattle.std.proofs.Common.{◌≡◌, ◌<◌, ◌+◌, true, length, slice_get, take, sym, ◌∙◌, ap, subst, arith}
 use Rattle.chyp_term.specs.Positions.{is_among}
 use Rattle.chyp_graph.specs.Removal.{AreLive, live_behind}
-use Rattle.chyp_graph.proofs.Ports.{all-is, get-is}
+use Rattle.chyp_term.proofs.Slices.{all-is}
+use Rattle.chyp_term.proofs.Closure.{get-item}
 use Rattle.chyp_graph.proofs.Removing.{Grows-trans, lit, live-grown, live-one-more}
 use Rattle.chyp_graph.proofs.removal.Removal.make_all_live.Goals as goal
 
@@ -21,7 +22,7 @@ loop-w-preserved c =
     record {
       removal = e.removal;
       live = subst (λ l. AreLive l (take (c.loop-w.w-index + 1) c.args.wires.now)) (sym e.live)
-          (live-one-more g c.loop-w.self.live.items c.args.wires.now c.loop-w.w-index w c.loop-w-test.true (get-is c.args.wires.now c.loop-w.w-index w c.loop-w-test.true c.w-item.is) room c.loop-w.invariant.live);
+          (live-one-more g c.loop-w.self.live.items c.args.wires.now c.loop-w.w-index w c.loop-w-test.true (get-item c.args.wires.now c.loop-w.w-index w c.loop-w-test.true c.w-item.is) room c.loop-w.invariant.live);
       stay = λ v h. ap (λ l. slice_get l v) e.live ∙ lit c.loop-w.self.live.items w v room (c.loop-w.invariant.stay v h);
       order = Grows-trans c.args.self.now.order.items c.loop-w.self.order.items c.make_live.new.self.order.items c.loop-w.invariant.order e.order;
     }

@@ -2,7 +2,7 @@ use Rattle.std.proofs.Common.{◌≡◌, true, Some, length, slice_get, slice_se
 use Rattle.std.proofs.Math.ListN.{length-set}
 use Rattle.chyp_graph.specs.PlainGraph.{Edge}
 use Rattle.chyp_graph.specs.Removal.{IsWaiting}
-use Rattle.chyp_graph.proofs.Ports.{get-is}
+use Rattle.chyp_term.proofs.Closure.{get-item}
 use Rattle.chyp_graph.proofs.Removing.{moved, moved-done, moved-on, other-none, source-below, source-place, source-within, sources-within, waiting-same}
 use Rattle.chyp_graph.proofs.removal.Removal.make_source_live.Goals as goal
 
@@ -30,7 +30,7 @@ returns-then-index-i-clause-removal c =
     let b = source-below g c.args.k c.args.i c.args.w c.requires.source in
     let e = c.requires.removal.edges in
     let v : c.k.inside.0 ≡ c.args.k = c.k.view_is in
-    let at : slice_get r.waits.items c.k.inside.0 ≡ Some c.index.result.now = get-is r.waits.items c.k.inside.0 c.index.result.now (omega arith) c.index.ensures in
+    let at : slice_get r.waits.items c.k.inside.0 ≡ Some c.index.result.now = get-item r.waits.items c.k.inside.0 c.index.result.now (omega arith) c.index.ensures in
     subst (λ w. IsWaiting g (slice_set r.live.items w true) r.waits.items r.order.items) (sym c.w.view_is)
     (waiting-same g r.live.items r.waits.items r.order.items c.args.w c.requires.removal wire c.requires.made
     (other-none g c.requires.valid r.waits.items c.args.w c.args.k c.args.i c.index.result.now c.requires.source (ap (slice_get r.waits.items) (sym v) ∙ at) c.if-index-i.true))
@@ -68,7 +68,7 @@ returns-in_ok-push-clause-removal c =
     let b = source-below g c.args.k c.args.i c.args.w c.requires.source in
     let n = c.requires.removal.edges in
     let v : c.k.inside.0 ≡ c.args.k = c.k.view_is in
-    let at : slice_get r.waits.items c.k.inside.0 ≡ Some c.index.result.now = get-is r.waits.items c.k.inside.0 c.index.result.now (omega arith) c.index.ensures in
+    let at : slice_get r.waits.items c.k.inside.0 ≡ Some c.index.result.now = get-item r.waits.items c.k.inside.0 c.index.result.now (omega arith) c.index.ensures in
     let f = c.first_unlive-place.ensures in
     let m = moved g r.live.items c.deref.result.now r.waits.items r.order.items c.args.w c.w.inside.0 c.args.k c.args.i c.index.result.now c.first_unlive-place.result e c.requires.valid c.requires.removal c.requires.made c.requires.source
     (ap (slice_get r.waits.items) (sym v) ∙ at) c.if-index-i.false c.edge.ensures c.w.view_is c.deref.ensures.value f.passed f.stuck in
@@ -82,7 +82,7 @@ returns-else-place-sources-clause-removal c =
     let b = source-below g c.args.k c.args.i c.args.w c.requires.source in
     let n = c.requires.removal.edges in
     let v : c.k.inside.0 ≡ c.args.k = c.k.view_is in
-    let at : slice_get r.waits.items c.k.inside.0 ≡ Some c.index.result.now = get-is r.waits.items c.k.inside.0 c.index.result.now (omega arith) c.index.ensures in
+    let at : slice_get r.waits.items c.k.inside.0 ≡ Some c.index.result.now = get-item r.waits.items c.k.inside.0 c.index.result.now (omega arith) c.index.ensures in
     let f = c.first_unlive-place.ensures in
     let m = moved g r.live.items c.deref.result.now r.waits.items r.order.items c.args.w c.w.inside.0 c.args.k c.args.i c.index.result.now c.first_unlive-place.result e c.requires.valid c.requires.removal c.requires.made c.requires.source
     (ap (slice_get r.waits.items) (sym v) ∙ at) c.if-index-i.false c.edge.ensures c.w.view_is c.deref.ensures.value f.passed f.stuck in

@@ -1,6 +1,0 @@
-use Rattle.std.proofs.Common.{take}
-use Rattle.chyp_graph.specs.Sweep.{AreFoundAt}
-use Rattle.chyp_graph.proofs.components.find_all.Given as goal
-
-abbrev pub invariant-loop-w : goal.invariant-loop-w
-invariant-loop-w l = AreFoundAt l.graph (take l.w-index l.wires) l.initial.sweep l.sweep
