@@ -66,7 +66,9 @@ module _ (g : PlainGraph) (v : IsValid g) (t : Morphism) (es : List Edge) (c : C
       ∙ ap targets_of (all-edges g.wires t g.inputs g.outputs es c))
 
   perm : IsPermutation (length g.wires) (map wire producers)
-  perm = subst (IsPermutation (length g.wires)) (sym wires-of) (Rearr-perm (length g.wires) (g.inputs ++ targets_of g.edges) (g.inputs ++ targets_of es) (Rearr-left g.inputs (Rearr-flat (λ e. e.targets) r)) v.producers)
+  perm =
+      subst (IsPermutation (length g.wires)) (sym wires-of)
+      (Rearr-perm (length g.wires) (g.inputs ++ targets_of g.edges) (g.inputs ++ targets_of es) (Rearr-left g.inputs (Rearr-flat (λ e. e.targets) r)) v.producers)
 
   is-producer : (x : Producer (EdgeOf t)) → IsWire t x → Member x producers
   is-producer (In j) l = member-left inputs (flat_map targets (edges_of t)) (In j) (member-map (λ j. In j) (count_from 0 (length (dom t))) j (below-member (length (dom t)) j l))

@@ -8,7 +8,8 @@ use Rattle.chyp_pattern.specs.Replacement.{IsGraphRule}
 
 -- a graph replaced at an occurrence is valid
 abbrev pub ReplacedAreValid : Type 0
-ReplacedAreValid = (l r g : PlainGraph) (es ws : List ℕ) → IsGraphRule l r → IsValid g → IsOccurrence l g es ws → IsValid (replaced g l r es ws)
+ReplacedAreValid = (l r g : PlainGraph) (es ws : List ℕ) → IsGraphRule l r → IsValid g → IsOccurrence l g es ws
+    → IsValid (replaced g l r es ws)
 
 -- and has the type that it had
 abbrev pub ReplacedKeepTypes : Type 0

@@ -19,17 +19,23 @@ module _ (g h : PlainGraph) (vg : IsValid g) (vh : IsValid h) where
       ∙ ap (λ r. count_from 0 (length g.wires) ++ r) (ap (λ n. count_from n (length h.wires)) (zero-add (length g.wires)) ∙ count_from-0 (length g.wires) (length h.wires))
 
   -- the ends of both, where each wire is once an end
-  both : (xs ys us vs : List ℕ) → IsPermutation (length g.wires) (xs ++ ys) → IsPermutation (length h.wires) (us ++ vs) → Rearr (count_from 0 (length (beside_graph g h).wires)) ((xs ++ map (λ w. length g.wires + w) us) ++ (ys ++ map (λ w. length g.wires + w) vs))
+  both : (xs ys us vs : List ℕ) → IsPermutation (length g.wires) (xs ++ ys) → IsPermutation (length h.wires) (us ++ vs)
+      → Rearr (count_from 0 (length (beside_graph g h).wires)) ((xs ++ map (λ w. length g.wires + w) us) ++ (ys ++ map (λ w. length g.wires + w) vs))
   both xs ys us vs p q =
       join (Rearr-same all-wires)
-      (join (Rearr-append (permutation-Rearr (length g.wires) (xs ++ ys) p) (join (Rearr-map (λ w. length g.wires + w) (permutation-Rearr (length h.wires) (us ++ vs) q)) (Rearr-same (map-append (λ w. length g.wires + w) us vs))))
+      (join (Rearr-append (permutation-Rearr (length g.wires) (xs ++ ys) p)
+      (join (Rearr-map (λ w. length g.wires + w) (permutation-Rearr (length h.wires) (us ++ vs) q)) (Rearr-same (map-append (λ w. length g.wires + w) us vs))))
       (Rearr-inner xs ys (map (λ w. length g.wires + w) us) (map (λ w. length g.wires + w) vs)))
 
   producers : Rearr (count_from 0 (length (beside_graph g h).wires)) ((beside_graph g h).inputs ++ targets_of (beside_graph g h).edges)
-  producers = join (both g.inputs (targets_of g.edges) h.inputs (targets_of h.edges) vg.producers vh.producers) (Rearr-same (ap (λ r. (beside_graph g h).inputs ++ r) (sym (targets-joined (λ w. length g.wires + w) g.edges h.edges))))
+  producers =
+      join (both g.inputs (targets_of g.edges) h.inputs (targets_of h.edges) vg.producers vh.producers)
+      (Rearr-same (ap (λ r. (beside_graph g h).inputs ++ r) (sym (targets-joined (λ w. length g.wires + w) g.edges h.edges))))
 
   consumers : Rearr (count_from 0 (length (beside_graph g h).wires)) ((beside_graph g h).outputs ++ sources_of (beside_graph g h).edges)
-  consumers = join (both g.outputs (sources_of g.edges) h.outputs (sources_of h.edges) vg.consumers vh.consumers) (Rearr-same (ap (λ r. (beside_graph g h).outputs ++ r) (sym (sources-joined (λ w. length g.wires + w) g.edges h.edges))))
+  consumers =
+      join (both g.outputs (sources_of g.edges) h.outputs (sources_of h.edges) vg.consumers vh.consumers)
+      (Rearr-same (ap (λ r. (beside_graph g h).outputs ++ r) (sym (sources-joined (λ w. length g.wires + w) g.edges h.edges))))
 
   edge-left : (e : Edge) → Member e g.edges → Member (renamed (λ w. w) e) (beside_graph g h).edges
   edge-left e k = member-left g.edges _ _ (subst (λ x. Member x g.edges) (sym (renamed-id e)) k)
@@ -43,7 +49,8 @@ module _ (g h : PlainGraph) (vg : IsValid g) (vh : IsValid h) where
 
   live-right : (n w : ℕ) → Member w (live_after h n) → Member (length g.wires + w) (live_after (beside_graph g h) n)
   live-right n w k = subst (λ x. Member (length g.wires + w) (live_after (beside_graph g h) x)) (zero-add n)
-      (carry h (beside_graph g h) (λ w. length g.wires + w) 0 (λ w k. member-left (beside_graph g h).inputs [] (length g.wires + w) (member-right g.inputs _ (length g.wires + w) (member-map (λ w. length g.wires + w) h.inputs w k))) edge-right n w k)
+      (carry h (beside_graph g h) (λ w. length g.wires + w) 0
+      (λ w k. member-left (beside_graph g h).inputs [] (length g.wires + w) (member-right g.inputs _ (length g.wires + w) (member-map (λ w. length g.wires + w) h.inputs w k))) edge-right n w k)
 
   taken : (e : Edge) → Member e (beside_graph g h).edges → IsTaken (beside_graph g h) e (length (beside_graph g h).edges)
   taken e k = go (member-split g.edges (map (renamed (λ w. length g.wires + w)) h.edges) e k)

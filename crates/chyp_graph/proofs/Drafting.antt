@@ -65,7 +65,8 @@ pub filter-map : {A B : Type 0} (p : B → Bool) (f : A → B) (xs : List A) →
 filter-map p f [] = refl
 filter-map p f (x ∷ xs) = go (p (f x)) (filter-map p f xs)
   where
-    go : (b : Bool) → filter p (map f xs) ≡ map f (filter (λ x. p (f x)) xs) → cond b (f x ∷ filter p (map f xs)) (filter p (map f xs)) ≡ map f (cond b (x ∷ filter (λ x. p (f x)) xs) (filter (λ x. p (f x)) xs))
+    go : (b : Bool) → filter p (map f xs) ≡ map f (filter (λ x. p (f x)) xs)
+        → cond b (f x ∷ filter p (map f xs)) (filter p (map f xs)) ≡ map f (cond b (x ∷ filter (λ x. p (f x)) xs) (filter (λ x. p (f x)) xs))
     go true ih = ap (λ r. f x ∷ r) ih
     go false ih = ih
 
@@ -78,7 +79,8 @@ member-count k (suc n) w (inr h) = let r = member-count (suc k) n w h in omega a
 pub inner-beyond : (ks : List ℕ) (n c : ℕ) → Under n ks → inner ks (n + c) ≡ inner ks n ++ count_from n c
 inner-beyond ks n c u =
     ap (filter (is_apart ks)) (count_from-append 0 n c) ∙ filter-append (is_apart ks) (count_from 0 n) (count_from (0 + n) c)
-    ∙ ap (λ r. inner ks n ++ r) (filter-all (is_apart ks) (count_from (0 + n) c) (λ w h. not_member-apart ks w (λ m. let a = member-under n ks w u m in let b = member-count (0 + n) c w h in omega arith))
+    ∙ ap (λ r. inner ks n ++ r) (filter-all (is_apart ks) (count_from (0 + n) c)
+    (λ w h. not_member-apart ks w (λ m. let a = member-under n ks w u m in let b = member-count (0 + n) c w h in omega arith))
     ∙ ap (λ k. count_from k c) (zero-add n))
 
 pub length-beyond : (ks : List ℕ) (n c : ℕ) → Under n ks → length (inner ks (n + c)) ≡ length (inner ks n) + c
@@ -103,8 +105,10 @@ module _ (d : PlainGraph) (live : List ℕ) (g h : PlainGraph) (u : Under (lengt
       go None q =
           let n = length g.wires in
           let a : joined g h w ≡ n + length (inner h.inputs w) = ap (joined_at g.outputs (n + length (inner h.inputs w))) q in
-          let p : place_of (n + length (inner h.inputs w)) g.inputs ≡ None = place-none_of (n + length (inner h.inputs w)) g.inputs (λ k. let b = member-under n g.inputs (n + length (inner h.inputs w)) u k in omega arith) in
-          let s : length (d.wires ++ permuted g.wires (inner_wires g)) ≡ length d.wires + length (inner_wires g) = length-append d.wires (permuted g.wires (inner_wires g)) ∙ ap (λ n. length d.wires + n) (length-inner g) in
+          let p : place_of (n + length (inner h.inputs w)) g.inputs ≡ None =
+          place-none_of (n + length (inner h.inputs w)) g.inputs (λ k. let b = member-under n g.inputs (n + length (inner h.inputs w)) u k in omega arith) in
+          let s : length (d.wires ++ permuted g.wires (inner_wires g)) ≡ length d.wires + length (inner_wires g) =
+          length-append d.wires (permuted g.wires (inner_wires g)) ∙ ap (λ n. length d.wires + n) (length-inner g) in
           let b = length-beyond g.inputs n (length (inner h.inputs w)) u in
           ap (joined (record d { outputs = live }) (then_graph g h)) a
           ∙ ap (joined_at live (length d.wires + length (inner g.inputs (n + length (inner h.inputs w))))) p
@@ -257,7 +261,8 @@ module _ (d : PlainGraph) (l r : List ℕ) (g h : PlainGraph) (v : IsValid g) (h
       ap₂ (λ n o. joined_at (l ++ r) (length d.wires + length n) o) (inner-left (length g.wires) w g.inputs h.inputs (omega arith)) (place-left w (length g.wires) g.inputs h.inputs b)
       ∙ go (place_of w g.inputs) refl
     where
-      go : (o : Option ℕ) → place_of w g.inputs ≡ o → joined_at (l ++ r) (length d.wires + length (inner g.inputs w)) (place_of w g.inputs) ≡ joined_at l (length d.wires + length (inner g.inputs w)) (place_of w g.inputs)
+      go : (o : Option ℕ) → place_of w g.inputs ≡ o → joined_at (l ++ r) (length d.wires + length (inner g.inputs w)) (place_of w g.inputs) ≡ joined_at l
+          (length d.wires + length (inner g.inputs w)) (place_of w g.inputs)
       go None q = ap (joined_at (l ++ r) (length d.wires + length (inner g.inputs w))) q ∙ sym (ap (joined_at l (length d.wires + length (inner g.inputs w))) q)
       go (Some j) q =
           let b = place-below w g.inputs j q in
@@ -274,7 +279,8 @@ module _ (d : PlainGraph) (l r : List ℕ) (g h : PlainGraph) (v : IsValid g) (h
       size = length-append d.wires (permuted g.wires (inner_wires g)) ∙ ap (λ n. length d.wires + n) (length-inner g)
 
       go : (o : Option ℕ) → place_of w h.inputs ≡ o
-          → joined_at (l ++ r) (length d.wires + (length (inner_wires g) + length (inner h.inputs w))) (option_map (λ j. length g.inputs + j) (place_of w h.inputs)) ≡ joined (record (followed d l g) { outputs = r }) h w
+          → joined_at (l ++ r) (length d.wires + (length (inner_wires g) + length (inner h.inputs w)))
+          (option_map (λ j. length g.inputs + j) (place_of w h.inputs)) ≡ joined (record (followed d l g) { outputs = r }) h w
       go None q =
           let s = size in
           ap (λ o. joined_at (l ++ r) (length d.wires + (length (inner_wires g) + length (inner h.inputs w))) (option_map (λ j. length g.inputs + j) o)) q
@@ -288,10 +294,12 @@ module _ (d : PlainGraph) (l r : List ℕ) (g h : PlainGraph) (v : IsValid g) (h
           ∙ sym (ap (joined_at r (length (d.wires ++ permuted g.wires (inner_wires g)) + length (inner h.inputs w))) q)
 
   below-source : (e : Edge) → Member e g.edges → (w : ℕ) → Member w e.sources → w < length g.wires
-  below-source e k w s = member-below (length g.wires) w (Rearr-member w (Rearr-sym (permutation-Rearr (length g.wires) _ v.consumers)) (member-right g.outputs _ w (member-flat (λ e. e.sources) g.edges e w k s)))
+  below-source e k w s =
+      member-below (length g.wires) w (Rearr-member w (Rearr-sym (permutation-Rearr (length g.wires) _ v.consumers)) (member-right g.outputs _ w (member-flat (λ e. e.sources) g.edges e w k s)))
 
   below-target : (e : Edge) → Member e g.edges → (w : ℕ) → Member w e.targets → w < length g.wires
-  below-target e k w s = member-below (length g.wires) w (Rearr-member w (Rearr-sym (permutation-Rearr (length g.wires) _ v.producers)) (member-right g.inputs _ w (member-flat (λ e. e.targets) g.edges e w k s)))
+  below-target e k w s =
+      member-below (length g.wires) w (Rearr-member w (Rearr-sym (permutation-Rearr (length g.wires) _ v.producers)) (member-right g.inputs _ w (member-flat (λ e. e.targets) g.edges e w k s)))
 
   below-output : (w : ℕ) → Member w g.outputs → w < length g.wires
   below-output w k = member-below (length g.wires) w (Rearr-member w (Rearr-sym (permutation-Rearr (length g.wires) _ v.consumers)) (member-left g.outputs _ w k))
@@ -304,11 +312,13 @@ module _ (d : PlainGraph) (l r : List ℕ) (g h : PlainGraph) (v : IsValid g) (h
       (sym (permuted-append_left g.wires h.wires (inner_wires g) (Under-filter (is_apart g.inputs) (length g.wires) 0 (length g.wires) (omega arith))))
       (sym (permuted-shifted g.wires h.wires (inner_wires h)))
       ∙ sym (permuted-append (g.wires ++ h.wires) (inner_wires g) (shifted (length g.wires) (inner_wires h)))
-      ∙ ap (permuted (g.wires ++ h.wires)) (sym (ap (inner (g.inputs ++ shifted (length g.wires) h.inputs)) (length-append g.wires h.wires) ∙ inner-right (length g.wires) (length h.wires) g.inputs h.inputs under))))
+      ∙ ap (permuted (g.wires ++ h.wires)) (sym (ap (inner (g.inputs ++ shifted (length g.wires) h.inputs)) (length-append g.wires h.wires)
+      ∙ inner-right (length g.wires) (length h.wires) g.inputs h.inputs under))))
       (append_assoc d.edges (map (renamed (joined (record d { outputs = l }) g)) g.edges) _
       ∙ ap (λ x. d.edges ++ x)
       (ap₂ (λ x y. x ++ y)
-      (map-same_on _ _ g.edges (λ e k. renamed-on (joined (record d { outputs = l }) g) (joined (record d { outputs = l ++ r }) (beside_graph g h)) e (λ w s. sym (joined-left w (below-source e k w s))) (λ w s. sym (joined-left w (below-target e k w s)))))
+      (map-same_on _ _ g.edges (λ e k. renamed-on (joined (record d { outputs = l }) g) (joined (record d { outputs = l ++ r }) (beside_graph g h)) e
+      (λ w s. sym (joined-left w (below-source e k w s))) (λ w s. sym (joined-left w (below-target e k w s)))))
       (sym (edges-twice (joined (record d { outputs = l ++ r }) (beside_graph g h)) (λ w. length g.wires + w) _ joined-right h.edges))
       ∙ sym (map-append (renamed (joined (record d { outputs = l ++ r }) (beside_graph g h))) g.edges (map (renamed (λ w. length g.wires + w)) h.edges))))
       refl

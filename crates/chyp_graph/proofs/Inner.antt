@@ -1,5 +1,6 @@
 -- The wires that are no input, counted; and places in a list of inputs.
-use Rattle.std.proofs.Common.{ℕ, zero, suc, ◌+◌, ◌-◌, ◌<◌, ◌≤◌, ◌≡◌, Bool, true, false, cond, eqb, List, [], ◌∷◌, ◌++◌, map, length, Some, None, option_map, slice_get, ◌⊎◌, inl, inr, refl, sym, ◌∙◌, ap, arith, add-zero, eq-eqb, ne_eqb}
+use Rattle.std.proofs.Common.{ℕ, zero, suc, ◌+◌, ◌-◌, ◌<◌, ◌≤◌, ◌≡◌, Bool, true, false, cond, eqb, List, [], ◌∷◌, ◌++◌, map, length, Some, None, option_map}
+use Rattle.std.proofs.Common.{slice_get, ◌⊎◌, inl, inr, refl, sym, ◌∙◌, ap, arith, add-zero, eq-eqb, ne_eqb}
 use Rattle.std.proofs.lemmas.Bool.{cases_lt, cases_Bool}
 use Rattle.chyp_term.specs.Perm.{count_from}
 use Rattle.chyp_term.specs.Positions.{place_of}
@@ -27,10 +28,12 @@ kept-back p (suc n) w i e = go (λ f. kept-back p n w i f) (cases_lt i (length (
         let k = ih (sym (get-append_left (upto p n) _ i l) ∙ ap (λ xs. slice_get xs i) (sym (upto-suc p n)) ∙ e) in
         record { passes = k.passes; below = let q = k.below in omega arith; place = k.place }
     go ih (inr g) (inl b) =
-        let f = last (i - length (upto p n)) (sym (get-past (upto p n) (n ∷ []) i g) ∙ ap (λ c. slice_get (upto p n ++ cond c (n ∷ []) []) i) (sym b) ∙ ap (λ xs. slice_get xs i) (sym (upto-suc p n)) ∙ e) in
+        let f = last (i - length (upto p n)) (sym (get-past (upto p n) (n ∷ []) i g) ∙ ap (λ c. slice_get (upto p n ++ cond c (n ∷ []) []) i) (sym b)
+        ∙ ap (λ xs. slice_get xs i) (sym (upto-suc p n)) ∙ e) in
         record { passes = ap p f.1 ∙ b; below = omega arith; place = ap (λ v. length (upto p v)) f.1 ∙ omega arith }
     go ih (inr g) (inr b) =
-        let f : slice_get {X = ℕ} [] (i - length (upto p n)) ≡ Some w = sym (get-past (upto p n) [] i g) ∙ ap (λ c. slice_get (upto p n ++ cond c (n ∷ []) []) i) (sym b) ∙ ap (λ xs. slice_get xs i) (sym (upto-suc p n)) ∙ e in
+        let f : slice_get {X = ℕ} [] (i - length (upto p n)) ≡ Some w =
+        sym (get-past (upto p n) [] i g) ∙ ap (λ c. slice_get (upto p n ++ cond c (n ∷ []) []) i) (sym b) ∙ ap (λ xs. slice_get xs i) (sym (upto-suc p n)) ∙ e in
         cc
 
 pub place-map : (f : ℕ → ℕ) (k n j : ℕ) → j < n → ((i l : ℕ) → k ≤ i → i < k + n → k ≤ l → l < k + n → f i ≡ f l → i ≡ l) → place_of (f (k + j)) (map f (count_from k n)) ≡ Some j

@@ -161,11 +161,18 @@ follow_permutation d live a p t h = plain-same
     outputs : map (joined (record d { outputs = live }) (graph_of (permutation a p))) p ≡ permuted live p
     outputs =
         ap (map (joined (record d { outputs = live }) (graph_of (permutation a p)))) (sym (permuted-numbers (length a) p (Under-perm (length a) p t)))
-        ∙ sym (permuted-map (joined (record d { outputs = live }) (graph_of (permutation a p))) (count_from 0 (length a)) p (subst (λ n. Under n p) (sym (length-count_from 0 (length a))) (Under-perm (length a) p t)))
+        ∙ sym (permuted-map (joined (record d { outputs = live }) (graph_of (permutation a p))) (count_from 0 (length a)) p
+        (subst (λ n. Under n p) (sym (length-count_from 0 (length a))) (Under-perm (length a) p t)))
         ∙ ap (λ l. permuted l p) (joined-inputs (record d { outputs = live }) (graph_of (permutation a p)) (permutation_valid a p t) (h ∙ sym (length-count_from 0 (length a))))
 
 pub place_permutation : (d : PlainGraph) (a : List Sort) (p : List ℕ) → IsPermutation (length a) p
-    → ◌≡◌ {A = PlainGraph} (record { wires = d.wires ++ a; edges = d.edges; inputs = d.inputs ++ count_from (length d.wires) (length a); outputs = d.outputs ++ permuted (count_from (length d.wires) (length a)) p }) (beside_graph d (graph_of (permutation a p)))
+    → ◌≡◌ {A = PlainGraph} (record {
+      wires = d.wires ++ a;
+      edges = d.edges;
+      inputs = d.inputs ++ count_from (length d.wires)
+          (length a);
+      outputs = d.outputs ++ permuted (count_from (length d.wires) (length a)) p;
+    }) (beside_graph d (graph_of (permutation a p)))
 place_permutation d a p t = plain-same
     refl
     (sym (append-nil d.edges))
@@ -198,7 +205,8 @@ pushed-at list live places before after i x h b e q r =
     ∙ permuted-append live (take i places) (slice_index places i ∷ [])
     ∙ ap (λ o. permuted live (take i places) ++ cons_option o []) (get-item live (slice_index places i) x b e)))
 
-pub pushed-item : {A : Type 0} (list items before after : List A) (i : ℕ) (x : A) → i < length items → x ≡ get_or items i x → before ≡ list ++ take i items → after ≡ before ++ x ∷ [] → after ≡ list ++ take (i + 1) items
+pub pushed-item : {A : Type 0} (list items before after : List A) (i : ℕ) (x : A) → i < length items → x ≡ get_or items i x → before ≡ list ++ take i items
+    → after ≡ before ++ x ∷ [] → after ≡ list ++ take (i + 1) items
 pushed-item list items before after i x h e q r =
     r ∙ ap (λ l. l ++ x ∷ []) q ∙ append_assoc list (take i items) (x ∷ []) ∙ ap (λ l. list ++ l) (sym (take-suc items i x (get-item items i x h e)))
 

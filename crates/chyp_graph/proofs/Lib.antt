@@ -10,6 +10,6 @@ pub mod Leaves
 pub mod Steps
 pub mod Numbering
 pub mod Removing
-pub mod Dating
+pub mod Levelling
 pub mod IsomorphicValid
 pub mod Deciding

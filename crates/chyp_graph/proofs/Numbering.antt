@@ -32,10 +32,12 @@ pub table-length : (f : ℕ → ℕ) (n : ℕ) (numbers : List ℕ) → numbers 
 table-length f n numbers e = ap length e ∙ length-map (count_from 0 n) f ∙ length-count_from 0 n
 
 source-below : (h : PlainGraph) → IsValid h → (e : Edge) → Member e h.edges → (w : ℕ) → Member w e.sources → w < length h.wires
-source-below h v e k w s = member-below (length h.wires) w (Rearr-member w (Rearr-sym (permutation-Rearr (length h.wires) _ v.consumers)) (member-right h.outputs _ w (member-flat (λ e. e.sources) h.edges e w k s)))
+source-below h v e k w s =
+    member-below (length h.wires) w (Rearr-member w (Rearr-sym (permutation-Rearr (length h.wires) _ v.consumers)) (member-right h.outputs _ w (member-flat (λ e. e.sources) h.edges e w k s)))
 
 target-below : (h : PlainGraph) → IsValid h → (e : Edge) → Member e h.edges → (w : ℕ) → Member w e.targets → w < length h.wires
-target-below h v e k w s = member-below (length h.wires) w (Rearr-member w (Rearr-sym (permutation-Rearr (length h.wires) _ v.producers)) (member-right h.inputs _ w (member-flat (λ e. e.targets) h.edges e w k s)))
+target-below h v e k w s =
+    member-below (length h.wires) w (Rearr-member w (Rearr-sym (permutation-Rearr (length h.wires) _ v.producers)) (member-right h.inputs _ w (member-flat (λ e. e.targets) h.edges e w k s)))
 
 pub input-below : (h : PlainGraph) → IsValid h → (w : ℕ) → Member w h.inputs → w < length h.wires
 input-below h v w k = member-below (length h.wires) w (Rearr-member w (Rearr-sym (permutation-Rearr (length h.wires) _ v.producers)) (member-left h.inputs _ w k))
@@ -92,7 +94,8 @@ input-apart h v i j a b e =
     let r : Some i ≡ Some j = sym p ∙ ap (λ w. place_of w h.inputs) e ∙ q in cc
 
 -- the number behind g is that in g ; h
-pub number-joined : (g h : PlainGraph) (table : List ℕ) → length h.inputs ≡ length g.outputs → ((j : ℕ) → j < length h.inputs → slice_index table (slice_index h.inputs j) ≡ slice_index g.outputs j) → (w : ℕ) → number_behind (length g.wires) table h.inputs w ≡ joined g h w
+pub number-joined : (g h : PlainGraph) (table : List ℕ) → length h.inputs ≡ length g.outputs
+    → ((j : ℕ) → j < length h.inputs → slice_index table (slice_index h.inputs j) ≡ slice_index g.outputs j) → (w : ℕ) → number_behind (length g.wires) table h.inputs w ≡ joined g h w
 number-joined g h table m t w = go (place_of w h.inputs) refl
   where
     go : (o : Option ℕ) → place_of w h.inputs ≡ o → number_behind (length g.wires) table h.inputs w ≡ joined g h w
@@ -104,7 +107,8 @@ number-joined g h table m t w = go (place_of w h.inputs) refl
         ∙ ap (slice_index table) (sym at) ∙ t j l
         ∙ sym (ap (joined_at g.outputs (length g.wires + length (inner h.inputs w))) q)
 
-pub numbers-joined : (g h : PlainGraph) (table numbers : List ℕ) → length h.inputs ≡ length g.outputs → ((j : ℕ) → j < length h.inputs → slice_index table (slice_index h.inputs j) ≡ slice_index g.outputs j)
+pub numbers-joined : (g h : PlainGraph) (table numbers : List ℕ) → length h.inputs ≡ length g.outputs
+    → ((j : ℕ) → j < length h.inputs → slice_index table (slice_index h.inputs j) ≡ slice_index g.outputs j)
     → numbers ≡ map (number_behind (length g.wires) table h.inputs) (count_from 0 (length h.wires)) → numbers ≡ map (joined g h) (count_from 0 (length h.wires))
 numbers-joined g h table numbers m t e = e ∙ map-same_on (number_behind (length g.wires) table h.inputs) (joined g h) (count_from 0 (length h.wires)) (λ w _. number-joined g h table m t w)
 
@@ -135,13 +139,17 @@ module _ (before : List Sort) (table : List ℕ) (h : PlainGraph) (w : ℕ) (num
   pub behind-other : w < length h.wires → is_among h.inputs w ≡ false → (sort : Sort) → slice_get h.wires w ≡ Some sort → numbers' ≡ numbers ++ length wires ∷ [] → wires' ≡ wires ++ sort ∷ []
       → (numbers' ≡ map (number_behind (length before) table h.inputs) (count_from 0 (w + 1))) × (wires' ≡ before ++ permuted h.wires (inner h.inputs (w + 1)))
   behind-other b a sort g n s = (
-    n ∙ ap₂ (λ l x. l ++ x ∷ []) i (count ∙ sym (ap (λ b. cond b (slice_index table w) (length before + length (inner h.inputs w))) a)) ∙ sym (map-count-suc (number_behind (length before) table h.inputs) w),
+    n ∙ ap₂ (λ l x. l ++ x ∷ []) i (count ∙ sym (ap (λ b. cond b (slice_index table w) (length before + length (inner h.inputs w))) a))
+        ∙ sym (map-count-suc (number_behind (length before) table h.inputs) w),
     s ∙ ap (λ l. l ++ sort ∷ []) j ∙ append_assoc before (permuted h.wires (inner h.inputs w)) (sort ∷ [])
-        ∙ ap (λ l. before ++ l) (sym (ap (permuted h.wires) (inner-other h.inputs w (ap not a)) ∙ permuted-append h.wires (inner h.inputs w) (w ∷ []) ∙ ap (λ o. permuted h.wires (inner h.inputs w) ++ cons_option o []) g)),
+        ∙ ap (λ l. before ++ l) (sym (ap (permuted h.wires) (inner-other h.inputs w (ap not a)) ∙ permuted-append h.wires (inner h.inputs w) (w ∷ [])
+        ∙ ap (λ o. permuted h.wires (inner h.inputs w) ++ cons_option o []) g)),
   )
     where
       count : length wires ≡ length before + length (inner h.inputs w)
-      count = ap length j ∙ length-append before (permuted h.wires (inner h.inputs w)) ∙ ap (λ n. length before + n) (length-permuted h.wires (inner h.inputs w) (Under-filter (is_apart h.inputs) (length h.wires) 0 w (omega arith)))
+      count =
+          ap length j ∙ length-append before (permuted h.wires (inner h.inputs w))
+          ∙ ap (λ n. length before + n) (length-permuted h.wires (inner h.inputs w) (Under-filter (is_apart h.inputs) (length h.wires) 0 w (omega arith)))
 
   -- there are few wires so far
   pub behind-few : w ≤ length h.wires → length before + length h.wires < 2147483648 → length wires < 2147483648

@@ -8,7 +8,8 @@ use Rattle.chyp_term.specs.Perm.{IsPermutation}
 use Rattle.chyp_term.specs.Positions.{is_among, is_apart}
 use Rattle.chyp_term.proofs.Permuted.{get-append_left}
 use Rattle.chyp_term.proofs.Positions.{slice_get-length}
-use Rattle.chyp_term.proofs.Members.{Member, Rearr-member, among-member, below-member, get-member, member-among, member-below, member-flat, member-not_apart, member-right, member-split, not_member-apart}
+use Rattle.chyp_term.proofs.Members.{Member, Rearr-member, among-member, below-member, get-member, member-among, member-below, member-flat, member-not_apart}
+use Rattle.chyp_term.proofs.Members.{member-right, member-split, not_member-apart}
 use Rattle.chyp_term.proofs.Members.{parts-apart, member-Contains, Contains-member, All-from_get_members, All-members, le-flat}
 use Rattle.chyp_term.proofs.Rearrangement.{Rearr-sym, flat-append, permutation-Rearr}
 use Rattle.chyp_term.proofs.Slices.{get-set_same, get-set_other, get-take, take-suc}
@@ -17,7 +18,8 @@ use Rattle.chyp_graph.specs.Graph.{IsPort, IsTable}
 use Rattle.chyp_graph.specs.PlainGraph.{Edge}
 use Rattle.chyp_graph.specs.PortTable.{AreNoted}
 
-pub noted-more : (e : ℕ) (ws : List ℕ) (i w : ℕ) (before table : List (Option (ℕ × ℕ))) → slice_get ws i ≡ Some w → w < length before → AreNoted e (take i ws) before table → AreNoted e (take (i + 1) ws) before (slice_set table w (Some (e, i)))
+pub noted-more : (e : ℕ) (ws : List ℕ) (i w : ℕ) (before table : List (Option (ℕ × ℕ))) → slice_get ws i ≡ Some w → w < length before
+    → AreNoted e (take i ws) before table → AreNoted e (take (i + 1) ws) before (slice_set table w (Some (e, i)))
 noted-more e ws i w before table g b n = (length-set table w (Some (e, i)) ∙ n.0, λ v entry h. at v entry h (cases_eq v w))
   where
     next : take (i + 1) ws ≡ take i ws ++ w ∷ []
@@ -42,7 +44,8 @@ noted-more e ws i w before table g b n = (length-set table w (Some (e, i)) ∙ n
             no (inr (inr m)) = m
         old (inr k) = inr (k.0, k.1, rw next (get-append_left (take i ws) (w ∷ []) k.0 (slice_get-length (take i ws) k.0 v k.2) ∙ k.2))
 
-pub table-more : (ports : Edge → List ℕ) (es : List Edge) (k : ℕ) (e : Edge) (n : ℕ) (table new : List (Option (ℕ × ℕ))) → slice_get es k ≡ Some e → IsTable ports (take k es) n table → AreNoted k (ports e) table new → IsTable ports (take (k + 1) es) n new
+pub table-more : (ports : Edge → List ℕ) (es : List Edge) (k : ℕ) (e : Edge) (n : ℕ) (table new : List (Option (ℕ × ℕ))) → slice_get es k ≡ Some e
+    → IsTable ports (take k es) n table → AreNoted k (ports e) table new → IsTable ports (take (k + 1) es) n new
 table-more ports es k e n table new g t m = record {
   size = m.0 ∙ t.size;
   entries = λ w entry h. at w entry (m.1 w entry h);
@@ -63,24 +66,29 @@ table-more ports es k e n table new g t m = record {
             last (inr r) = r
     older w (Some p) h a = found-edge (slice_get (take k es) p.0) refl h
       where
-        found-edge : (o : Option Edge) → slice_get (take k es) p.0 ≡ o → option_and_then (λ e. slice_get (ports e) p.1) o ≡ Some w → option_and_then (λ e. slice_get (ports e) p.1) (slice_get (take (k + 1) es) p.0) ≡ Some w
+        found-edge : (o : Option Edge) → slice_get (take k es) p.0 ≡ o → option_and_then (λ e. slice_get (ports e) p.1) o ≡ Some w
+            → option_and_then (λ e. slice_get (ports e) p.1) (slice_get (take (k + 1) es) p.0) ≡ Some w
         found-edge None q r = cc
         found-edge (Some d) q r = rw (next, get-append_left (take k es) (e ∷ []) p.0 (slice_get-length (take k es) p.0 d q), q) r
 
-    at : (w : ℕ) (entry : Option (ℕ × ℕ)) → ((slice_get table w ≡ Some entry) × (is_apart (ports e) w ≡ true)) ⊎ ((i : ℕ) × (entry ≡ Some (k, i)) × (slice_get (ports e) i ≡ Some w)) → IsPort ports (take (k + 1) es) w entry
+    at : (w : ℕ) (entry : Option (ℕ × ℕ)) → ((slice_get table w ≡ Some entry) × (is_apart (ports e) w ≡ true)) ⊎
+        ((i : ℕ) × (entry ≡ Some (k, i)) × (slice_get (ports e) i ≡ Some w)) → IsPort ports (take (k + 1) es) w entry
     at w entry (inl q) = older w entry (t.entries w entry q.0) q.1
     at w entry (inr q) = subst (IsPort ports (take (k + 1) es) w) (sym q.1) (rw (get-take es (k + 1) k (omega arith), g) q.2)
 
 -- what a table says of a wire
-pub read-port : (ports : Edge → List ℕ) (es : List Edge) (n : ℕ) (table : List (Option (ℕ × ℕ))) → IsTable ports es n table → (w : ℕ) → w < n → (entry : Option (ℕ × ℕ)) → entry ≡ get_or table w entry → IsPort ports es w entry
+pub read-port : (ports : Edge → List ℕ) (es : List Edge) (n : ℕ) (table : List (Option (ℕ × ℕ))) → IsTable ports es n table → (w : ℕ) → w < n
+    → (entry : Option (ℕ × ℕ)) → entry ≡ get_or table w entry → IsPort ports es w entry
 read-port ports es n table t w h entry e = let s = t.size in t.entries w entry (get-item table w entry (omega arith) e)
 
-pub port-at : (ports : Edge → List ℕ) (es : List Edge) (w : ℕ) (entry : Option (ℕ × ℕ)) → IsPort ports es w entry → IfSome entry (λ p. option_and_then (λ e. slice_get (ports e) p.1) (slice_get es p.0) ≡ Some w)
+pub port-at : (ports : Edge → List ℕ) (es : List Edge) (w : ℕ) (entry : Option (ℕ × ℕ)) → IsPort ports es w entry
+    → IfSome entry (λ p. option_and_then (λ e. slice_get (ports e) p.1) (slice_get es p.0) ≡ Some w)
 port-at ports es w None h = tt
 port-at ports es w (Some p) h = h
 
 -- a wire is no port exactly where it is an end, and each wire is once either
-pub no-port : (ports : Edge → List ℕ) (es : List Edge) (n : ℕ) (ends : List ℕ) → IsPermutation n (ends ++ flat_map ports es) → (w : ℕ) → w < n → (entry : Option (ℕ × ℕ)) → IsPort ports es w entry → IsNone entry ↔ Contains ends w
+pub no-port : (ports : Edge → List ℕ) (es : List Edge) (n : ℕ) (ends : List ℕ) → IsPermutation n (ends ++ flat_map ports es) → (w : ℕ) → w < n
+    → (entry : Option (ℕ × ℕ)) → IsPort ports es w entry → IsNone entry ↔ Contains ends w
 no-port ports es n ends t w b None h = (λ _. member-Contains ends w (go (member-split ends (flat_map ports es) w (Rearr-member w (permutation-Rearr n _ t) (below-member n w b)))), λ _. refl)
   where
     go : (Member w ends) ⊎ (Member w (flat_map ports es)) → Member w ends
@@ -95,8 +103,10 @@ no-port ports es n ends t w b (Some p) h = (λ x. cc, λ c. absurd (parts-apart 
 -- ## the ports of a valid graph
 
 -- they are few wires each
-pub ports-within : (ports : Edge → List ℕ) (es : List Edge) (n : ℕ) (ends : List ℕ) → IsPermutation n (ends ++ flat_map ports es) → n < 2147483648 → All (λ e. (length (ports e) < 4294967296) × All (λ w. w < n) (ports e)) es
-ports-within ports es n ends t b = All-from_get_members {P = λ e. (length (ports e) < 4294967296) × All (λ w. w < n) (ports e)} es (λ e m. (few e m, All-members (ports e) (λ w k. below w (member-flat ports es e w m k))))
+pub ports-within : (ports : Edge → List ℕ) (es : List Edge) (n : ℕ) (ends : List ℕ) → IsPermutation n (ends ++ flat_map ports es) → n < 2147483648
+    → All (λ e. (length (ports e) < 4294967296) × All (λ w. w < n) (ports e)) es
+ports-within ports es n ends t b =
+    All-from_get_members {P = λ e. (length (ports e) < 4294967296) × All (λ w. w < n) (ports e)} es (λ e m. (few e m, All-members (ports e) (λ w k. below w (member-flat ports es e w m k))))
   where
     below : (w : ℕ) → Member w (flat_map ports es) → w < n
     below w m = member-below n w (Rearr-member w (Rearr-sym (permutation-Rearr n _ t)) (member-right ends _ w m))

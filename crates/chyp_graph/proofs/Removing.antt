@@ -17,7 +17,7 @@ use Rattle.chyp_term.proofs.Slices.{get-set_other, get-set_same, take-suc, push-
 use Rattle.chyp_term.proofs.Rearrangement.{Rearr-sym, flat-append, permutation-Rearr}
 use Rattle.chyp_graph.specs.Graph.{source_at}
 use Rattle.chyp_graph.specs.PlainGraph.{Edge, PlainGraph, sources_of, targets_of}
-use Rattle.chyp_graph.specs.Removal.{AreLive, Grows, IsOrder, IsSourceless, IsWaiting, StayLive, live_behind}
+use Rattle.chyp_graph.specs.Removal.{AreLive, Grows, IsTopologicalOrder, IsSourceless, IsWaiting, StayLive, live_behind}
 use Rattle.chyp_graph.specs.Validity.{IsValid, is_ready, taken_within}
 use Rattle.chyp_graph.proofs.Rounds.{edge-taken, live_after}
 
@@ -147,7 +147,8 @@ pub output-none : (g : PlainGraph) → IsValid g → (w : ℕ) → Contains g.ou
 output-none g v w c k n s = Once-apart g.outputs (sources_of g.edges) (Once-perm (length g.wires) _ v.consumers) w (Contains-member g.outputs w c) (port-member (λ e. e.sources) g.edges k n w s)
 
 -- the edge that has it as a source waits for another
-pub other-none : (g : PlainGraph) → IsValid g → (waits : List ℕ) (w k i m : ℕ) → source_at g k i ≡ Some w → slice_get waits k ≡ Some m → (m ≡ i → ⊥) → (j n : ℕ) → slice_get waits j ≡ Some n → source_at g j n ≡ Some w → ⊥
+pub other-none : (g : PlainGraph) → IsValid g → (waits : List ℕ) (w k i m : ℕ) → source_at g k i ≡ Some w → slice_get waits k ≡ Some m → (m ≡ i → ⊥) → (j n : ℕ)
+    → slice_get waits j ≡ Some n → source_at g j n ≡ Some w → ⊥
 other-none g v waits w k i m s a ne j n b r =
     let q = source-once g v k j i n w s r in
     let e : slice_get waits k ≡ Some n = ap (slice_get waits) q.0 ∙ b in
@@ -189,7 +190,8 @@ moved-stuck g live waits order w k i place t a n u h s = go (set-cases waits k p
     go (inr q) = get-set_other live w u true (λ e. q.0 (source-once g t.valid a k n i w (s ∙ ap (λ x. Some x) e) t.source).0) ∙ t.before.stuck a n u q.1 s
 
 -- it waits for another source
-pub waiting-moved : (g : PlainGraph) (live : List Bool) (waits order : List ℕ) (w k i place u : ℕ) → IsMoved g live waits order w k i place → source_at g k place ≡ Some u → IsWaiting g (slice_set live w true) (slice_set waits k place) order
+pub waiting-moved : (g : PlainGraph) (live : List Bool) (waits order : List ℕ) (w k i place u : ℕ) → IsMoved g live waits order w k i place
+    → source_at g k place ≡ Some u → IsWaiting g (slice_set live w true) (slice_set waits k place) order
 waiting-moved g live waits order w k i place u t r = record {
   wires = length-set live w true ∙ t.before.wires;
   edges = length-set waits k place ∙ t.before.edges;
@@ -218,7 +220,8 @@ beyond (x ∷ xs) (suc m) zero v l a b = omega arith
 beyond (x ∷ xs) (suc m) (suc n) v l a b = beyond xs m n v (omega arith) a b
 
 -- it waits no more
-pub waiting-done : (g : PlainGraph) (live : List Bool) (waits order : List ℕ) (w k i place : ℕ) → IsMoved g live waits order w k i place → source_at g k place ≡ None → IsWaiting g (slice_set live w true) (slice_set waits k place) (order ++ k ∷ [])
+pub waiting-done : (g : PlainGraph) (live : List Bool) (waits order : List ℕ) (w k i place : ℕ) → IsMoved g live waits order w k i place → source_at g k place ≡ None
+    → IsWaiting g (slice_set live w true) (slice_set waits k place) (order ++ k ∷ [])
 waiting-done g live waits order w k i place t r = record {
   wires = length-set live w true ∙ t.before.wires;
   edges = length-set waits k place ∙ t.before.edges;
@@ -334,10 +337,11 @@ waiting-start g live waits order lw le dark first t small = record {
 
 -- once the inputs and the targets of the edges in the order are live, all edges are in it
 pub order-complete : (g : PlainGraph) (live : List Bool) (waits order : List ℕ) → IsValid g → IsWaiting g live waits order → AreLive live g.inputs
-    → ((i k : ℕ) (e : Edge) → slice_get order i ≡ Some k → slice_get g.edges k ≡ Some e → AreLive live e.targets) → IsOrder g order
+    → ((i k : ℕ) (e : Edge) → slice_get order i ≡ Some k → slice_get g.edges k ≡ Some e → AreLive live e.targets) → IsTopologicalOrder g order
 order-complete g live waits order v t inputs targets = record {
   within = t.within;
-  all = λ k h. let f = found g.edges k h in let r = edge-taken g v.acyclic f.0 (get-member g.edges k f.0 f.1) in done k f.0 f.1 (λ w m. live-all r.round w (among-member (live_after g r.round) w (members-all (is_among (live_after g r.round)) f.0.sources r.ready w m)));
+  all = λ k h. let f = found g.edges k h in let r = edge-taken g v.acyclic f.0 (get-member g.edges k f.0 f.1) in done k f.0 f.1
+      (λ w m. live-all r.round w (among-member (live_after g r.round) w (members-all (is_among (live_after g r.round)) f.0.sources r.ready w m)));
   in_order = t.in_order;
 }
   where
@@ -379,19 +383,24 @@ pub source-below : (g : PlainGraph) (k i w : ℕ) → source_at g k i ≡ Some w
 source-below g k i w s = let p = port-edge (λ e. e.sources) g.edges k i w s in slice_get-length g.edges k p.0 p.1
 
 pub source-within : (g : PlainGraph) → IsValid g → (k i w : ℕ) → source_at g k i ≡ Some w → w < length g.wires
-source-within g v k i w s = member-below (length g.wires) w (Rearr-member w (Rearr-sym (permutation-Rearr (length g.wires) _ v.consumers)) (member-right g.outputs (sources_of g.edges) w (port-member (λ e. e.sources) g.edges k i w s)))
+source-within g v k i w s =
+    member-below (length g.wires) w (Rearr-member w (Rearr-sym (permutation-Rearr (length g.wires) _ v.consumers))
+    (member-right g.outputs (sources_of g.edges) w (port-member (λ e. e.sources) g.edges k i w s)))
 
 pub sources-within : (g : PlainGraph) → IsValid g → (k n : ℕ) (e : Edge) → slice_get g.edges k ≡ Some e → n ≡ length g.wires → All (λ w. w < n) e.sources
-sources-within g v k n e q size = All-from_get_members {P = λ w. w < n} e.sources (λ w m. let i = member-get e.sources w m in let l = source-within g v k i.0 w (source-at g k i.0 e q ∙ i.1) in omega arith)
+sources-within g v k n e q size =
+    All-from_get_members {P = λ w. w < n} e.sources (λ w m. let i = member-get e.sources w m in let l = source-within g v k i.0 w (source-at g k i.0 e q ∙ i.1) in omega arith)
 
 pub source-place : (g : PlainGraph) (k i w : ℕ) (e : Edge) → slice_get g.edges k ≡ Some e → source_at g k i ≡ Some w → i < length e.sources
 source-place g k i w e q s = slice_get-length e.sources i w (sym (source-at g k i e q) ∙ s)
 
 -- ## the step, as the code makes it
 
-pub moved : (g : PlainGraph) (live after : List Bool) (waits order : List ℕ) (w w' k i m place : ℕ) (e : Edge) → IsValid g → IsWaiting g live waits order → is_among (live_behind g order) w ≡ true → source_at g k i ≡ Some w
+pub moved : (g : PlainGraph) (live after : List Bool) (waits order : List ℕ) (w w' k i m place : ℕ) (e : Edge) → IsValid g → IsWaiting g live waits order
+    → is_among (live_behind g order) w ≡ true → source_at g k i ≡ Some w
     → slice_get waits k ≡ Some m → m ≡ i → slice_get g.edges k ≡ Some e → w' ≡ w → after ≡ slice_set live w' true
-    → ((j u : ℕ) → i ≤ j → j < place → slice_get e.sources j ≡ Some u → slice_get after u ≡ Some true) → ((u : ℕ) → slice_get e.sources place ≡ Some u → slice_get after u ≡ Some false) → IsMoved g live waits order w k i place
+    → ((j u : ℕ) → i ≤ j → j < place → slice_get e.sources j ≡ Some u → slice_get after u ≡ Some true)
+    → ((u : ℕ) → slice_get e.sources place ≡ Some u → slice_get after u ≡ Some false) → IsMoved g live waits order w k i place
 moved g live after waits order w w' k i m place e v t a s st mi q ww l p d = record {
   before = t;
   valid = v;
@@ -406,7 +415,8 @@ moved g live after waits order w w' k i m place e v t a s st mi q ww l p d = rec
     now : after ≡ slice_set live w true
     now = l ∙ ap (λ x. slice_set live x true) ww
 
-pub moved-done : (g : PlainGraph) (live : List Bool) (waits order new : List ℕ) (w w' k k' i place : ℕ) (e : Edge) → IsMoved g live waits order w k i place → slice_get g.edges k ≡ Some e → place ≡ length e.sources
+pub moved-done : (g : PlainGraph) (live : List Bool) (waits order new : List ℕ) (w w' k k' i place : ℕ) (e : Edge) → IsMoved g live waits order w k i place
+    → slice_get g.edges k ≡ Some e → place ≡ length e.sources
     → w' ≡ w → k' ≡ k → new ≡ order ++ k ∷ [] → IsWaiting g (slice_set live w' true) (slice_set waits k' place) new
 moved-done g live waits order new w w' k k' i place e t q l ww kk o =
     subst (λ x. IsWaiting g (slice_set live x true) (slice_set waits k' place) new) (sym ww)
@@ -414,7 +424,8 @@ moved-done g live waits order new w w' k k' i place e t q l ww kk o =
     (subst (λ x. IsWaiting g (slice_set live w true) (slice_set waits k place) x) (sym o)
     (waiting-done g live waits order w k i place t (source-at g k place e q ∙ ap (slice_get e.sources) l ∙ get-end e.sources))))
 
-pub moved-on : (g : PlainGraph) (live : List Bool) (waits order : List ℕ) (w w' k k' i place : ℕ) (e : Edge) → IsMoved g live waits order w k i place → slice_get g.edges k ≡ Some e → place ≤ length e.sources → (place ≡ length e.sources → ⊥)
+pub moved-on : (g : PlainGraph) (live : List Bool) (waits order : List ℕ) (w w' k k' i place : ℕ) (e : Edge) → IsMoved g live waits order w k i place
+    → slice_get g.edges k ≡ Some e → place ≤ length e.sources → (place ≡ length e.sources → ⊥)
     → w' ≡ w → k' ≡ k → IsWaiting g (slice_set live w' true) (slice_set waits k' place) order
 moved-on g live waits order w w' k k' i place e t q l n ww kk =
     let f = found e.sources place (omega arith) in
@@ -422,29 +433,35 @@ moved-on g live waits order w w' k k' i place e t q l n ww kk =
     (subst (λ x. IsWaiting g (slice_set live w true) (slice_set waits x place) order) (sym kk)
     (waiting-moved g live waits order w k i place f.0 t (source-at g k place e q ∙ f.1)))
 
-pub live-one-more : (g : PlainGraph) (live : List Bool) (wires : List ℕ) (i w : ℕ) → i < length wires → slice_get wires i ≡ Some w → w < length live → AreLive live (take i wires) → AreLive (slice_set live w true) (take (i + 1) wires)
+pub live-one-more : (g : PlainGraph) (live : List Bool) (wires : List ℕ) (i w : ℕ) → i < length wires → slice_get wires i ≡ Some w → w < length live
+    → AreLive live (take i wires) → AreLive (slice_set live w true) (take (i + 1) wires)
 live-one-more g live wires i w b q r a j u h = go (push-cases (take i wires) w j u (ap (λ l. slice_get l j) (sym (take-suc wires i w q)) ∙ h))
   where
     go : (slice_get (take i wires) j ≡ Some u) ⊎ ((j ≡ length (take i wires)) × (u ≡ w)) → slice_get (slice_set live w true) u ≡ Some true
     go (inl k) = lit live w u r (a j u k)
     go (inr k) = ap (slice_get (slice_set live w true)) k.1 ∙ get-set_same live w true r
 
-pub removal-start : (g : PlainGraph) (live : List Bool) (waits order : List ℕ) (n m : ℕ) → IsValid g → n ≡ length g.wires → m ≡ length g.edges → live ≡ replicate n false → waits ≡ replicate m 0 → IsSourceless g (length g.edges) order → IsWaiting g live waits order
+pub removal-start : (g : PlainGraph) (live : List Bool) (waits order : List ℕ) (n m : ℕ) → IsValid g → n ≡ length g.wires → m ≡ length g.edges
+    → live ≡ replicate n false → waits ≡ replicate m 0 → IsSourceless g (length g.edges) order → IsWaiting g live waits order
 removal-start g live waits order n m v ln lm l w t = waiting-start g live waits order
     (ap length l ∙ length-replicate n false ∙ ln) (ap length w ∙ length-replicate m 0 ∙ lm) (λ u b h. all-same n false live l u b h) (λ k x h. all-same m 0 waits w k x h) t (source-within g v)
 
 pub inputs-made : (g : PlainGraph) (order : List ℕ) → All (λ w. is_among (live_behind g order) w ≡ true) g.inputs
-inputs-made g order = All-from_get_members {P = λ w. is_among (live_behind g order) w ≡ true} g.inputs (λ w m. member-among (live_behind g order) w (member-left g.inputs (targets_of (permuted g.edges order)) w m))
+inputs-made g order =
+    All-from_get_members {P = λ w. is_among (live_behind g order) w ≡ true} g.inputs (λ w m. member-among (live_behind g order) w (member-left g.inputs (targets_of (permuted g.edges order)) w m))
 
 pub inputs-wires : (g : PlainGraph) → IsValid g → All (λ w. w < length g.wires) g.inputs
-inputs-wires g v = All-from_get_members {P = λ w. w < length g.wires} g.inputs (λ w m. member-below (length g.wires) w (Rearr-member w (Rearr-sym (permutation-Rearr (length g.wires) _ v.producers)) (member-left g.inputs (targets_of g.edges) w m)))
+inputs-wires g v =
+    All-from_get_members {P = λ w. w < length g.wires} g.inputs
+    (λ w m. member-below (length g.wires) w (Rearr-member w (Rearr-sym (permutation-Rearr (length g.wires) _ v.producers)) (member-left g.inputs (targets_of g.edges) w m)))
 
 pub targets-made : (g : PlainGraph) (order : List ℕ) (j k : ℕ) (e : Edge) → slice_get order j ≡ Some k → slice_get g.edges k ≡ Some e → All (λ w. is_among (live_behind g order) w ≡ true) e.targets
 targets-made g order j k e h q = All-from_get_members {P = λ w. is_among (live_behind g order) w ≡ true} e.targets (λ w m. member-among (live_behind g order) w
     (member-right g.inputs (targets_of (permuted g.edges order)) w (member-flat (λ e. e.targets) (permuted g.edges order) e w (member-permuted g.edges order k e (get-member order j k h) q) m)))
 
 pub targets-wires : (g : PlainGraph) → IsValid g → (k : ℕ) (e : Edge) → slice_get g.edges k ≡ Some e → All (λ w. w < length g.wires) e.targets
-targets-wires g v k e q = All-from_get_members {P = λ w. w < length g.wires} e.targets (λ w m. member-below (length g.wires) w (Rearr-member w (Rearr-sym (permutation-Rearr (length g.wires) _ v.producers))
+targets-wires g v k e q =
+    All-from_get_members {P = λ w. w < length g.wires} e.targets (λ w m. member-below (length g.wires) w (Rearr-member w (Rearr-sym (permutation-Rearr (length g.wires) _ v.producers))
     (member-right g.inputs (targets_of g.edges) w (member-flat (λ e. e.targets) g.edges e w (get-member g.edges k e q) m))))
 
 -- ## the loop
@@ -453,7 +470,8 @@ targets-wires g v k e q = All-from_get_members {P = λ w. w < length g.wires} e.
 abbrev pub AreTargetsLive : PlainGraph → List Bool → List ℕ → ℕ → Type 0
 AreTargetsLive g live order j = (i k : ℕ) (e : Edge) → i < j → slice_get order i ≡ Some k → slice_get g.edges k ≡ Some e → AreLive live e.targets
 
-pub targets-more : (g : PlainGraph) (live after : List Bool) (order new : List ℕ) (j k : ℕ) (e : Edge) → AreTargetsLive g live order j → slice_get order j ≡ Some k → slice_get g.edges k ≡ Some e → StayLive live after → AreLive after e.targets → Grows order new
+pub targets-more : (g : PlainGraph) (live after : List Bool) (order new : List ℕ) (j k : ℕ) (e : Edge) → AreTargetsLive g live order j → slice_get order j ≡ Some k
+    → slice_get g.edges k ≡ Some e → StayLive live after → AreLive after e.targets → Grows order new
     → AreTargetsLive g after new (j + 1)
 targets-more g live after order new j k e t h q s a w i m d l p r = go (cases_lt i j)
   where
@@ -476,6 +494,7 @@ targets-end g live order j t b i k e l h q = let c = slice_get-length order i k 
 pub order-few : (g : PlainGraph) (order : List ℕ) → All (λ k. k < length g.edges) order → Once order → length order ≤ length g.edges
 order-few g order a o = pigeonhole (length g.edges) order (λ i j h l e. o i j (slice_index order i) (get-index order i h) (get-index order j l ∙ ap (λ x. Some x) (sym e))) (λ i h. a i 0 h)
 
-pub removal-end : (g : PlainGraph) (live : List Bool) (waits order : List ℕ) (j : ℕ) → IsValid g → IsWaiting g live waits order → AreLive live g.inputs → AreTargetsLive g live order j → length g.edges ≤ j → IsOrder g order
+pub removal-end : (g : PlainGraph) (live : List Bool) (waits order : List ℕ) (j : ℕ) → IsValid g → IsWaiting g live waits order → AreLive live g.inputs
+    → AreTargetsLive g live order j → length g.edges ≤ j → IsTopologicalOrder g order
 removal-end g live waits order j v t i a b = order-complete g live waits order v t i
     (λ m k e h q. let f = order-few g order t.within t.once in let l = slice_get-length order m k h in a m k e (omega arith) h q)

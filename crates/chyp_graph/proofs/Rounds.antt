@@ -44,7 +44,8 @@ ready-renamed f live more e c r = all-members (is_among more) (map f e.sources) 
 
 -- what is live in g after n rounds is live in h after n more than a rounds, where f takes the edges of g to edges of h and
 -- the inputs of g are live there after a rounds
-pub carry : (g h : PlainGraph) (f : ℕ → ℕ) (a : ℕ) → ((w : ℕ) → Member w g.inputs → Member (f w) (live_after h a)) → ((e : Edge) → Member e g.edges → Member (renamed f e) h.edges) → (n w : ℕ) → Member w (live_after g n) → Member (f w) (live_after h (a + n))
+pub carry : (g h : PlainGraph) (f : ℕ → ℕ) (a : ℕ) → ((w : ℕ) → Member w g.inputs → Member (f w) (live_after h a))
+    → ((e : Edge) → Member e g.edges → Member (renamed f e) h.edges) → (n w : ℕ) → Member w (live_after g n) → Member (f w) (live_after h (a + n))
 carry g h f a ins es zero w m = go (member-split g.inputs [] w m)
   where
     go : (Member w g.inputs) ⊎ ⊥ → Member (f w) (live_after h (a + zero))

@@ -107,7 +107,8 @@ module _ (g h : PlainGraph) (vg : IsValid g) (vh : IsValid h) (m : length g.outp
       (join (Rearr-left (sources_of g.edges) used-later)
       (join (Rearr-same (sym (append_assoc (sources_of g.edges) (map (joined g h) h.outputs) (map (joined g h) (sources_of h.edges)))))
       (join (Rearr-right (map (joined g h) (sources_of h.edges)) (Rearr-comm (sources_of g.edges) (map (joined g h) h.outputs)))
-      (Rearr-same (append_assoc (map (joined g h) h.outputs) (sources_of g.edges) (map (joined g h) (sources_of h.edges)) ∙ ap (λ r. map (joined g h) h.outputs ++ r) (sym (sources-joined (joined g h) g.edges h.edges)))))))))
+      (Rearr-same (append_assoc (map (joined g h) h.outputs) (sources_of g.edges) (map (joined g h) (sources_of h.edges))
+      ∙ ap (λ r. map (joined g h) h.outputs ++ r) (sym (sources-joined (joined g h) g.edges h.edges)))))))))
 
   edge-left : (e : Edge) → Member e g.edges → Member (renamed (λ w. w) e) (then_graph g h).edges
   edge-left e k = member-left g.edges _ _ (subst (λ x. Member x g.edges) (sym (renamed-id e)) k)

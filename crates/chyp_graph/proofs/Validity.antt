@@ -43,7 +43,9 @@ length-middle s t ty = length-outputs s ty.0 ∙ ap length ty.2 ∙ sym (length-
 pub generator_valid : (n : List ℕ) (a b : List Sort) → IsValid (graph_of (generator n a b))
 generator_valid n a b = record {
   producers = Rearr-permutation _ _ (Rearr-same (wires ∙ ap (λ r. count_from 0 (length a) ++ r) (sym (append-nil _))));
-  consumers = Rearr-permutation _ _ (join (Rearr-same wires) (join (Rearr-comm (count_from 0 (length a)) (count_from (length a) (length b))) (Rearr-same (ap (λ r. count_from (length a) (length b) ++ r) (sym (append-nil _))))));
+  consumers =
+      Rearr-permutation _ _ (join (Rearr-same wires)
+      (join (Rearr-comm (count_from 0 (length a)) (count_from (length a) (length b))) (Rearr-same (ap (λ r. count_from (length a) (length b) ++ r) (sym (append-nil _))))));
   acyclic = all-taken (graph_of (generator n a b)) taken;
 }
   where

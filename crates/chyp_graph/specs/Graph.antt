@@ -4,6 +4,11 @@ use Rattle.std.specs.Option.{option_and_then}
 use Rattle.chyp_term.specs.Positions.{is_apart}
 use Rattle.chyp_graph.specs.PlainGraph.{Edge, PlainGraph}
 use Rattle.chyp_graph.specs.Validity.{IsValid}
+use Rattle.chyp_graph.specs.declared.edge_view.EdgeView.{EdgeView}
+
+-- the edge that is lent
+abbrev pub lent_edge : EdgeView → Edge
+lent_edge e = record { name = e.name.now; sources = e.sources.now; targets = e.targets.now }
 
 -- the i-th target of the edge k
 abbrev pub target_at : PlainGraph → ℕ → ℕ → Option ℕ

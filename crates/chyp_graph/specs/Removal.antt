@@ -13,10 +13,11 @@ live_behind g order = g.inputs ++ targets_of (permuted g.edges order)
 
 -- each edge in the order comes after those that make its sources
 abbrev pub IsInOrder : PlainGraph → List ℕ → Type 0
-IsInOrder g order = (j k : ℕ) (e : Edge) → slice_get order j ≡ Some k → slice_get g.edges k ≡ Some e → is_ready (live_behind g (take j order)) e ≡ true
+IsInOrder g order = (j k : ℕ) (e : Edge) → slice_get order j ≡ Some k → slice_get g.edges k ≡ Some e
+    → is_ready (live_behind g (take j order)) e ≡ true
 
--- an order of all edges in which they can be taken away
-pub record IsOrder (g : PlainGraph) (order : List ℕ) : Type 0 where
+-- a topological order of the edges: all of them can be taken away in it
+pub record IsTopologicalOrder (g : PlainGraph) (order : List ℕ) : Type 0 where
   pub within : All (λ k. k < length g.edges) order
   pub all : (k : ℕ) → k < length g.edges → Contains order k
   pub in_order : IsInOrder g order
@@ -58,11 +59,11 @@ pub record IsLiveFrom (g : PlainGraph) (w n : ℕ) : Type 0 where
   pub by_then : is_among (g.inputs ++ targets_of (taken_within g n)) w ≡ true
   pub not_before : (m : ℕ) → m < n → is_among (g.inputs ++ targets_of (taken_within g m)) w ≡ false
 
--- of each of the wires the number of rounds from which on it is live
-pub record AreDated (g : PlainGraph) (wires dates : List ℕ) : Type 0 where
-  pub size : length dates ≡ length g.wires
-  pub few : All (λ n. n < 2 ^ 31) dates
-  pub each : (w n : ℕ) → is_among wires w ≡ true → slice_get dates w ≡ Some n → IsLiveFrom g w n
+-- the level of each of the wires: the number of rounds from which on it is live
+pub record AreLevels (g : PlainGraph) (wires levels : List ℕ) : Type 0 where
+  pub size : length levels ≡ length g.wires
+  pub few : All (λ n. n < 2 ^ 31) levels
+  pub each : (w n : ℕ) → is_among wires w ≡ true → slice_get levels w ≡ Some n → IsLiveFrom g w n
 
 -- the edges without sources among the first n
 pub record IsSourceless (g : PlainGraph) (n : ℕ) (order : List ℕ) : Type 0 where

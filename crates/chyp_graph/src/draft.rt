@@ -1,11 +1,11 @@
 // Graphs while they are drawn, from terms.
-ghost use Rattle.std.specs.Prelude.{◌≡◌, ℕ, ◌<◌, ◌≤◌, ◌+◌, ◌^◌, [], ◌∷◌, ◌++◌, IfOk, drop, length, slice_index, take};
+ghost use Rattle.std.specs.Prelude.{◌≡◌, ℕ, ◌<◌, ◌≤◌, ◌+◌, ◌^◌, [], ◌∷◌, ◌++◌, IfOk, length, slice_index};
 ghost use Rattle.chyp_term.specs.Morphism.{IsTyped, dom};
 ghost use Rattle.chyp_term.specs.Perm.{count_from, permuted};
 ghost use Rattle.chyp_term.specs.Measure.{size_of};
 ghost use Rattle.chyp_term.specs.Term.{morphism_of};
 ghost use Rattle.chyp_graph.specs.Composition.{beside_graph};
-ghost use Rattle.chyp_graph.specs.Draft.{drawn, followed};
+ghost use Rattle.chyp_graph.specs.Draft.{IsFollowed, drawn};
 ghost use Rattle.chyp_graph.specs.GraphOf.{graph_of};
 
 use crate::{EdgePart, WireId, WireIds};
@@ -75,7 +75,7 @@ impl Draft {
         requires room { length self.old.wires.items + size_of (morphism_of term.now) < 2 ^ 31 }
         requires live { at + length (dom (morphism_of term.now)) ≤ length live.now }
         ensures end { IfOk result (λ end. end ≡ at + length (dom (morphism_of term.now))) }
-        ensures drawn { IfOk result (λ _. drawn self.new ≡ followed (drawn self.old) (take (length (dom (morphism_of term.now))) (drop at live.now)) (graph_of (morphism_of term.now))) }
+        ensures drawn { IfOk result (λ _. IsFollowed (drawn self.old) live.now at (morphism_of term.now) (drawn self.new)) }
     {
         match term {
             Term::Gen { name, dom, cod } => {

@@ -1,23 +1,24 @@
 // Graphs.
 ghost use Rattle.std.specs.Prelude.{All, ◌≡◌, ℕ, ◌+◌, ◌<◌, ◌^◌, ◌↔◌, ◌++◌, Contains, IfOk, IfSome, IsNone, Some, length, map, slice_get, slice_index};
 ghost use Rattle.chyp_term.specs.Morphism.{IsTyped};
-ghost use Rattle.chyp_term.specs.Perm.{IsPermutation, count_from, permuted};
+ghost use Rattle.chyp_term.specs.Perm.{permuted};
 ghost use Rattle.chyp_term.specs.Positions.{place_of};
 ghost use Rattle.chyp_term.specs.Measure.{size_of};
 ghost use Rattle.chyp_term.specs.Term.{morphism_of};
 ghost use Rattle.chyp_graph.specs.Composition.{beside_graph, inner_wires, then_graph};
-ghost use Rattle.chyp_graph.specs.Graph.{source_at, target_at};
+ghost use Rattle.chyp_graph.specs.Graph.{lent_edge, source_at, target_at};
 ghost use Rattle.chyp_graph.specs.GraphOf.{graph_of};
-ghost use Rattle.chyp_graph.specs.Joining.{number_behind};
+ghost use Rattle.chyp_graph.specs.Joining.{AreApart, AreJoinedAt, numbers_behind};
 ghost use Rattle.chyp_graph.specs.PlainGraph.{PlainGraph, input_sorts, output_sorts};
 ghost use Rattle.chyp_graph.specs.Rounds.{AreRounds};
 ghost use Rattle.chyp_graph.specs.Validity.{IsValid};
 
-use crate::dates::rounds_in;
 use crate::draft::{Draft, add_wires};
-use crate::port_table::{Port, consumers, producers};
-use crate::removal::order_of;
+use crate::levels::rounds_in;
+use crate::port_table::{Port, table_of};
+use crate::removal::topological_order;
 use crate::renumber::{copied_edges, copied_wires, push_edges, push_wires};
+use crate::side::Side;
 use crate::{EdgeId, EdgePart, EdgeParts, EdgeView, WireId, WireIds};
 use chyp_base::{NoMemory, Sort, Sorts};
 use chyp_term::Term;
@@ -43,7 +44,10 @@ impl Model for Graph {
 
     ghost view = { λ g. record { wires = g.wires.items; edges = g.edges.items; inputs = g.inputs.items; outputs = g.outputs.items } };
 
-    ghost invariant = { λ g. IsKept (record { wires = g.wires.items; edges = g.edges.items; inputs = g.inputs.items; outputs = g.outputs.items }) g.producers.items g.consumers.items };
+    ghost invariant = { λ g. IsKept
+        (record { wires = g.wires.items; edges = g.edges.items; inputs = g.inputs.items; outputs = g.outputs.items })
+        g.producers.items
+        g.consumers.items };
 }
 
 impl Graph {
@@ -66,8 +70,8 @@ impl Graph {
         let wires = wires.into_vec()?;
         let edges = edges.into_vec();
         let alloc = *wires.allocator();
-        let producers = producers(alloc, wires.len(), &edges)?;
-        let consumers = consumers(alloc, wires.len(), &edges)?;
+        let producers = table_of(alloc, wires.len(), &edges, Side::Targets)?;
+        let consumers = table_of(alloc, wires.len(), &edges, Side::Sources)?;
         Ok(Graph {
             wires,
             edges,
@@ -163,7 +167,7 @@ impl Graph {
     ) -> Result<Vec<WireId>, NoMemory>
         requires few { length wires.old.items + length self.now.wires < 2 ^ 31 }
         requires size { length at_inputs.now ≡ length self.now.wires }
-        ensures numbers { IfOk result (λ numbers. numbers.items ≡ map (number_behind (length wires.old.items) at_inputs.now self.now.inputs) (count_from 0 (length self.now.wires))) }
+        ensures numbers { IfOk result (λ numbers. numbers.items ≡ numbers_behind (length wires.old.items) at_inputs.now self.now) }
         ensures wires { IfOk result (λ _. wires.new.items ≡ wires.old.items ++ permuted self.now.wires (inner_wires self.now)) }
     {
         let mut numbers = Vec::with_capacity(*wires.allocator(), self.wires.len())?;
@@ -189,7 +193,7 @@ impl Graph {
         ensures { IfOk result (λ rounds. AreRounds self.now rounds.items) }
     {
         let alloc = *self.wires.allocator();
-        let order = order_of(alloc, self)?;
+        let order = topological_order(alloc, self)?;
         rounds_in(alloc, self, &order)
     }
 
@@ -227,7 +231,7 @@ impl Graph {
     /// The edge of this number.
     pub fn edge(&self, k: EdgeId) -> EdgeView<'_>
         requires { k < length self.now.edges }
-        ensures { slice_get self.now.edges k ≡ Some (record { name = result.name.now; sources = result.sources.now; targets = result.targets.now }) }
+        ensures { slice_get self.now.edges k ≡ Some (lent_edge result) }
     {
         let edge = &self.edges[k.0 as usize];
         EdgeView {
@@ -291,9 +295,9 @@ fn at_inputs(
 ) -> Result<Vec<WireId>, NoMemory>
     requires same { length inputs.now ≡ length outputs.now }
     requires within { All (λ w. w < wires) inputs.now }
-    requires apart { (i j : ℕ) → i < length inputs.now → j < length inputs.now → slice_index inputs.now i ≡ slice_index inputs.now j → i ≡ j }
+    requires apart { AreApart inputs.now }
     ensures size { IfOk result (λ numbers. length numbers.items ≡ wires) }
-    ensures numbers { IfOk result (λ numbers. (j : ℕ) → j < length inputs.now → slice_index numbers.items (slice_index inputs.now j) ≡ slice_index outputs.now j) }
+    ensures numbers { IfOk result (λ numbers. AreJoinedAt inputs.now outputs.now numbers.items) }
 {
     let mut numbers = vec![in alloc; WireId(0); wires]?;
     for (j, wire) in inputs.iter().enumerate() {

@@ -13,7 +13,6 @@
 //! shows that the graph of a typed term is valid.
 #![tactic(auto)]
 
-mod dates;
 mod draft;
 mod edge_id;
 mod edge_ids;
@@ -21,9 +20,11 @@ mod edge_part;
 mod edge_parts;
 mod edge_view;
 mod graph;
+mod levels;
 mod port_table;
 mod removal;
 mod renumber;
+mod side;
 mod wire_id;
 mod wire_ids;
 

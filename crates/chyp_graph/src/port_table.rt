@@ -1,46 +1,41 @@
-// Tables of ports: of each wire, the edge and the place where it is a target, or a source.
+// Tables of ports: of each wire, the edge and the place where it stands on one side.
 ghost use Rattle.std.specs.Prelude.{◌≡◌, ℕ, ◌<◌, ◌≤◌, ◌+◌, ◌^◌, All, IfOk, List, Option, Some, length, slice_get, take};
 ghost use Rattle.chyp_graph.specs.Graph.{IsTable};
-ghost use Rattle.chyp_graph.specs.PortTable.{AreNoted};
+ghost use Rattle.chyp_graph.specs.PortTable.{AreNoted, ports_on};
 
+use crate::side::Side;
 use crate::{EdgeId, EdgePart, WireId};
 use std::alloc::{AllocError, Global};
 
 /// An edge, and a place among its targets or its sources.
 pub(crate) type Port = Option<(EdgeId, u32)>;
 
-/// Where each of the wires is a target.
-pub(crate) fn producers(
+/// Where each of the wires is a port on this side of one of the edges.
+pub(crate) fn table_of(
     alloc: Global,
     wires: usize,
     edges: &[EdgePart],
+    side: Side,
 ) -> Result<Vec<Port>, AllocError>
     requires few { length edges.now < 2 ^ 31 }
-    requires ports { All (λ e. (length e.targets < 2 ^ 32) × All (λ w. w < wires) e.targets) edges.now }
-    ensures { IfOk result (λ table. IsTable (λ e. e.targets) edges.now wires table.items) }
+    requires ports { All (λ e. (length (ports_on side e) < 2 ^ 32) × All (λ w. w < wires) (ports_on side e)) edges.now }
+    ensures { IfOk result (λ table. IsTable (ports_on side) edges.now wires table.items) }
 {
     let mut table = vec![in alloc; None; wires]?;
     for (k, edge) in edges.iter().enumerate() {
-        note(&mut table, EdgeId(k as u32), edge.targets.as_slice());
+        note(&mut table, EdgeId(k as u32), ports_on(edge, side));
     }
     Ok(table)
 }
 
-/// Where each of the wires is a source.
-pub(crate) fn consumers(
-    alloc: Global,
-    wires: usize,
-    edges: &[EdgePart],
-) -> Result<Vec<Port>, AllocError>
-    requires few { length edges.now < 2 ^ 31 }
-    requires ports { All (λ e. (length e.sources < 2 ^ 32) × All (λ w. w < wires) e.sources) edges.now }
-    ensures { IfOk result (λ table. IsTable (λ e. e.sources) edges.now wires table.items) }
+/// The wires of the edge on this side, in order.
+fn ports_on(edge: &EdgePart, side: Side) -> &[WireId]
+    ensures { result.now ≡ ports_on side edge.now }
 {
-    let mut table = vec![in alloc; None; wires]?;
-    for (k, edge) in edges.iter().enumerate() {
-        note(&mut table, EdgeId(k as u32), edge.sources.as_slice());
+    match side {
+        Side::Sources => edge.sources.as_slice(),
+        Side::Targets => edge.targets.as_slice(),
     }
-    Ok(table)
 }
 
 /// Notes of each wire in the list that it is a port of the edge, at its place in the list.

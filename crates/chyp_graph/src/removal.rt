@@ -2,7 +2,7 @@
 ghost use Rattle.std.specs.Prelude.{◌≡◌, ℕ, ◌<◌, ◌≤◌, true, false, All, IfOk, Some, length, slice_get, slice_set};
 ghost use Rattle.chyp_term.specs.Positions.{is_among};
 ghost use Rattle.chyp_graph.specs.Graph.{source_at};
-ghost use Rattle.chyp_graph.specs.Removal.{AreLive, Grows, IsOrder, IsRemoval, IsSourceless, StayLive, live_behind};
+ghost use Rattle.chyp_graph.specs.Removal.{AreLive, Grows, IsTopologicalOrder, IsRemoval, IsSourceless, StayLive, live_behind};
 ghost use Rattle.chyp_graph.specs.Validity.{IsValid};
 
 use crate::{EdgeId, Graph, WireId};
@@ -129,9 +129,9 @@ fn first_unlive(wires: &[WireId], live: &[bool], from: usize) -> usize
     wires.len()
 }
 
-/// An order of the edges in which they can be taken away one by one.
-pub(crate) fn order_of(alloc: Global, graph: &Graph) -> Result<Vec<EdgeId>, NoMemory>
-    ensures { IfOk result (λ order. IsOrder graph.now order.items) }
+/// A topological order of the edges: they can be taken away in it one by one.
+pub(crate) fn topological_order(alloc: Global, graph: &Graph) -> Result<Vec<EdgeId>, NoMemory>
+    ensures { IfOk result (λ order. IsTopologicalOrder graph.now order.items) }
 {
     let inputs = graph.inputs();
     let mut removal = Removal::new(alloc, graph)?;

@@ -180,7 +180,10 @@ fn edge(alloc: Global, name: &str, from: u32, to: u32) -> Result<EdgePart, Fail>
 
 /// The edges of f * g.
 fn edges(alloc: Global) -> Result<EdgeParts, Fail>
-    ensures { IfOk result (λ edges. edges ≡ record { name = 102 ∷ []; sources = 0 ∷ []; targets = 1 ∷ [] } ∷ record { name = 103 ∷ []; sources = 2 ∷ []; targets = 3 ∷ [] } ∷ []) }
+    ensures { IfOk result (λ edges. edges
+        ≡ record { name = 102 ∷ []; sources = 0 ∷ []; targets = 1 ∷ [] }
+        ∷ record { name = 103 ∷ []; sources = 2 ∷ []; targets = 3 ∷ [] }
+        ∷ []) }
 {
     let edges = vec![in alloc; edge(alloc, "f", 0, 1)?, edge(alloc, "g", 2, 3)?]?;
     Ok(EdgeParts::from_vec(edges))

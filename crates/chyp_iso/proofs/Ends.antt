@@ -25,20 +25,25 @@ pub first-leads : (g h : PlainGraph) (s t : Pairs) → Leads g h (wire_pairs g.i
 first-leads g h s t l = Leads-seeds g h (end_pairs g h) (wire_pairs g.inputs h.inputs) s t l (λ test c p q x k. q x (has-left (wire_pairs g.inputs h.inputs) (wire_pairs g.outputs h.outputs) x k))
 
 pub both-lead : (g h : PlainGraph) (s t u : Pairs) → Leads g h (wire_pairs g.inputs h.inputs) s t → Leads g h (wire_pairs g.outputs h.outputs) t u → Leads g h (end_pairs g h) s u
-both-lead g h s t u l m = Leads-trans g h (end_pairs g h) s t u (first-leads g h s t l) (Leads-seeds g h (end_pairs g h) (wire_pairs g.outputs h.outputs) t u m (λ test c p q x k. q x (has-right (wire_pairs g.inputs h.inputs) (wire_pairs g.outputs h.outputs) x k)))
+both-lead g h s t u l m =
+    Leads-trans g h (end_pairs g h) s t u (first-leads g h s t l)
+    (Leads-seeds g h (end_pairs g h) (wire_pairs g.outputs h.outputs) t u m (λ test c p q x k. q x (has-right (wire_pairs g.inputs h.inputs) (wire_pairs g.outputs h.outputs) x k)))
 
 pub first-refutes : (g h : PlainGraph) (ps : List Pair) → Refutes g h (wire_pairs g.inputs h.inputs) ps → Refutes g h (end_pairs g h) ps
 first-refutes g h ps r iso m n = r iso m (λ x k. n x (has-left (wire_pairs g.inputs h.inputs) (wire_pairs g.outputs h.outputs) x k))
 
-pub both-answer : (g h : PlainGraph) (s t u : Pairs) (b : Bool) → IsValid h → Leads g h (wire_pairs g.inputs h.inputs) s t → Includes (wire_pairs g.inputs h.inputs) t.pairs → Leads g h (wire_pairs g.outputs h.outputs) t u
-    → MatchBool b (Includes (wire_pairs g.outputs h.outputs) u.pairs) (Refutes g h (wire_pairs g.outputs h.outputs) t.pairs) → MatchBool b (Includes (end_pairs g h) u.pairs) (Refutes g h (end_pairs g h) s.pairs)
+pub both-answer : (g h : PlainGraph) (s t u : Pairs) (b : Bool) → IsValid h → Leads g h (wire_pairs g.inputs h.inputs) s t
+    → Includes (wire_pairs g.inputs h.inputs) t.pairs → Leads g h (wire_pairs g.outputs h.outputs) t u
+    → MatchBool b (Includes (wire_pairs g.outputs h.outputs) u.pairs) (Refutes g h (wire_pairs g.outputs h.outputs) t.pairs)
+    → MatchBool b (Includes (end_pairs g h) u.pairs) (Refutes g h (end_pairs g h) s.pairs)
 both-answer g h s t u true v l i m r = λ p k. go p (has-split (wire_pairs g.inputs h.inputs) (wire_pairs g.outputs h.outputs) p k)
   where
     go : (p : Pair) → (Has (wire_pairs g.inputs h.inputs) p) ⊎ (Has (wire_pairs g.outputs h.outputs) p) → Has u.pairs p
     go p (inl k) = Leads-has g h (wire_pairs g.outputs h.outputs) t u m p (i p k)
     go p (inr k) = r p k
 both-answer g h s t u false v l i m r =
-    Refutes-after g h (end_pairs g h) (wire_pairs g.outputs h.outputs) s t v (first-leads g h s t l) (λ iso x n p k. n p (has-right (wire_pairs g.inputs h.inputs) (wire_pairs g.outputs h.outputs) p k)) r
+    Refutes-after g h (end_pairs g h) (wire_pairs g.outputs h.outputs) s t v (first-leads g h s t l)
+    (λ iso x n p k. n p (has-right (wire_pairs g.inputs h.inputs) (wire_pairs g.outputs h.outputs) p k)) r
 
 list-maps : (g h : PlainGraph) (iso : Isomorphic g h) (vs ws : List ℕ) → ws ≡ map iso.wire vs → Maps iso (wire_pairs vs ws)
 list-maps g h iso vs ws e p k =
@@ -70,7 +75,8 @@ hanging-answer g h s t u false f n e l i m r = ends-refute g h s e (Refutes-afte
 
 -- ## the whole search
 
-pub whole-answer : (g h : PlainGraph) (t u : Pairs) (b : Bool) → HaveSameCounts g h → IsPairing g h t × ((iso : Isomorphic g h) → Maps iso t.pairs) → MatchBool b (IsPairing g h u × AreKnown u.pairs (length g.edges)) ((iso : Isomorphic g h) → Maps iso t.pairs → ⊥)
+pub whole-answer : (g h : PlainGraph) (t u : Pairs) (b : Bool) → HaveSameCounts g h → IsPairing g h t × ((iso : Isomorphic g h) → Maps iso t.pairs)
+    → MatchBool b (IsPairing g h u × AreKnown u.pairs (length g.edges)) ((iso : Isomorphic g h) → Maps iso t.pairs → ⊥)
     → MatchBool b (IsWhole g h u) (Isomorphic g h → ⊥)
 whole-answer g h t u true c a r = record { pairing = r.0; counts = c; known = r.1 }
 whole-answer g h t u false c a r = λ iso. r iso (a.1 iso)
@@ -83,8 +89,10 @@ images-take says ps n k xs q b a x y l e =
 take-size : (xs : List ℕ) (k : ℕ) → k ≤ length xs → length (take k xs) ≡ k
 take-size xs k b = let l = length-take k xs in omega arith
 
-pub found-answer : (g h : PlainGraph) (s : Pairs) (es ws : List ℕ) (m n : ℕ) (b : Bool) → MatchBool b (IsWhole g h s) (Isomorphic g h → ⊥) → m ≡ length g.edges → n ≡ length g.wires → length g.edges ≤ length es → length g.wires ≤ length ws → AreImages edge_there s.pairs m es → AreImages wire_there s.pairs n ws
+pub found-answer : (g h : PlainGraph) (s : Pairs) (es ws : List ℕ) (m n : ℕ) (b : Bool) → MatchBool b (IsWhole g h s) (Isomorphic g h → ⊥) → m ≡ length g.edges
+    → n ≡ length g.wires → length g.edges ≤ length es → length g.wires ≤ length ws → AreImages edge_there s.pairs m es → AreImages wire_there s.pairs n ws
     → MatchBool b (IsIsomorphism g h (take (length g.edges) es) (take (length g.wires) ws)) (Isomorphic g h → ⊥)
 found-answer g h s es ws m n true r p q i j x y =
-    is-isomorphism g h s (take (length g.edges) es) (take (length g.wires) ws) r (take-size es _ i) (take-size ws _ j) (images-take edge_there s.pairs m (length g.edges) es p i x) (images-take wire_there s.pairs n (length g.wires) ws q j y)
+    is-isomorphism g h s (take (length g.edges) es) (take (length g.wires) ws) r (take-size es _ i) (take-size ws _ j)
+    (images-take edge_there s.pairs m (length g.edges) es p i x) (images-take wire_there s.pairs n (length g.wires) ws q j y)
 found-answer g h s es ws m n false r p q i j x y = r

@@ -85,7 +85,8 @@ switched m f = record {
   edge_back = switch m.edge_back m.edge f.edge_back;
 }
 
-pub switch-ports : (g h : PlainGraph) (m : PartMap) (f : FullMap) → IsPart g h m → IsFull g h f → (side : Side) (k i v : ℕ) → IsPortAt g side k i v → IsPortAt h side (switch m.edge m.edge_back f.edge k) i (switch m.wire m.wire_back f.wire v)
+pub switch-ports : (g h : PlainGraph) (m : PartMap) (f : FullMap) → IsPart g h m → IsFull g h f → (side : Side) (k i v : ℕ) → IsPortAt g side k i v
+    → IsPortAt h side (switch m.edge m.edge_back f.edge k) i (switch m.wire m.wire_back f.wire v)
 switch-ports g h m f p q side k i v a = go (m.edge k) refl (m.wire v) refl (m.edge_back (f.edge k)) refl (m.wire_back (f.wire v)) refl
   where
     at : (e w e' w' : ℕ) → e ≡ e' → w ≡ w' → IsPortAt h side e' i w' → IsPortAt h side e i w
@@ -99,7 +100,8 @@ switch-ports g h m f p q side k i v a = go (m.edge k) refl (m.wire v) refl (m.ed
     go None x (Some w) y e' x' w' y' = let u = p.up side k i v w y a in let c : ◌≡◌ {A = Option ℕ} None (Some u.0) = sym x ∙ u.2 in cc
     go None x None y (Some e') x' w' y' =
         let d = p.down_back side e' (f.edge k) i (f.wire v) (p.edges.again e' (f.edge k) x') (q.ports side k i v a) in
-        at _ _ (f.edge e') (f.wire d.0) (switch-taken m.edge m.edge_back f.edge k e' x x') (switch-taken m.wire m.wire_back f.wire v d.0 y (p.wires.there d.0 (f.wire v) d.2)) (q.ports side e' i d.0 d.1)
+        at _ _ (f.edge e') (f.wire d.0) (switch-taken m.edge m.edge_back f.edge k e' x x')
+        (switch-taken m.wire m.wire_back f.wire v d.0 y (p.wires.there d.0 (f.wire v) d.2)) (q.ports side e' i d.0 d.1)
     go None x None y None x' (Some w') y' =
         let u = p.up_back side (f.edge k) i w' (f.wire v) (p.wires.again w' (f.wire v) y') (q.ports side k i v a) in
         let c : ◌≡◌ {A = Option ℕ} None (Some u.0) = sym x' ∙ p.edges.there u.0 (f.edge k) u.2 in
@@ -208,7 +210,8 @@ past-closed g h m n f a b s = record {
   up = λ side e k i v w x y z. up side e i v (or-split (is_some (m.wire v)) _ x) y;
 }
   where
-    down : (side : Side) (e i v : ℕ) → (is_some (m.edge e) ≡ true) ⊎ (not (is_some (n.edge_back (f.edge e))) ≡ true) → IsPortAt g side e i v → (is_some (m.wire v) || not (is_some (n.wire_back (f.wire v)))) ≡ true
+    down : (side : Side) (e i v : ℕ) → (is_some (m.edge e) ≡ true) ⊎ (not (is_some (n.edge_back (f.edge e))) ≡ true) → IsPortAt g side e i v
+        → (is_some (m.wire v) || not (is_some (n.wire_back (f.wire v)))) ≡ true
     down side e i v (inl x) y = let k = is-some (m.edge e) x in let d = s.small.down side e k.0 i v k.1 y in or-left _ _ (some-is (m.wire v) d.0 d.2)
     down side e i v (inr x) y = or-right (is_some (m.wire v)) _ (some-not (n.wire_back (f.wire v)) (go (n.wire_back (f.wire v)) refl))
       where
@@ -219,7 +222,8 @@ past-closed g h m n f a b s = record {
             let c : ◌≡◌ {A = Option ℕ} None (Some r.0) = sym (not-some (n.edge_back (f.edge e)) x) ∙ s.large.edges.there r.0 (f.edge e) r.2 in
             cc
 
-    up : (side : Side) (e i v : ℕ) → (is_some (m.wire v) ≡ true) ⊎ (not (is_some (n.wire_back (f.wire v))) ≡ true) → IsPortAt g side e i v → (is_some (m.edge e) || not (is_some (n.edge_back (f.edge e)))) ≡ true
+    up : (side : Side) (e i v : ℕ) → (is_some (m.wire v) ≡ true) ⊎ (not (is_some (n.wire_back (f.wire v))) ≡ true) → IsPortAt g side e i v
+        → (is_some (m.edge e) || not (is_some (n.edge_back (f.edge e)))) ≡ true
     up side e i v (inl x) y = let k = is-some (m.wire v) x in let d = s.small.up side e i v k.0 k.1 y in or-left _ _ (some-is (m.edge e) d.0 d.2)
     up side e i v (inr x) y = or-right (is_some (m.edge e)) _ (some-not (n.edge_back (f.edge e)) (go (n.edge_back (f.edge e)) refl))
       where
@@ -252,7 +256,8 @@ past-all g h m n f a b s o = s.follows _ _ (past-closed g h m n f a b s)
 
 apart : (g h : PlainGraph) (m n : PartMap) (f : FullMap) (a b : ℕ) → IsGrown g h m n f a b → n.edge_back (f.edge a) ≡ None → CanExchange g h n f
 unfolding past
-apart g h m n f a b s o = (inl (λ v w u x y. wires v w u x y (or-split (is_some (m.wire v)) _ (all.on_wires v w x))), inl (λ e k u x y. edges e k u x y (or-split (is_some (m.edge e)) _ (all.on_edges e k x))))
+apart g h m n f a b s o =
+    (inl (λ v w u x y. wires v w u x y (or-split (is_some (m.wire v)) _ (all.on_wires v w x))), inl (λ e k u x y. edges e k u x y (or-split (is_some (m.edge e)) _ (all.on_edges e k x))))
   where
     all : Pass n (past m.wire n.wire_back f.wire) (past m.edge n.edge_back f.edge)
     all = past-all g h m n f a b s o

@@ -65,7 +65,8 @@ same-counts g h iso = record { edge_count = same-size _ _ iso.edge iso.edge_back
 -- ## all wires
 
 pub wires-known : (g h : PlainGraph) (s : Pairs) → IsWhole g h s → (v : ℕ) → v < length g.wires → (w : ℕ) × Has s.pairs (Wires v w)
-wires-known g h s x v l = go (member-split g.inputs (targets_of g.edges) v (Rearr-member v (permutation-Rearr (length g.wires) _ x.pairing.fits.first_valid.producers) (below-member (length g.wires) v l)))
+wires-known g h s x v l =
+    go (member-split g.inputs (targets_of g.edges) v (Rearr-member v (permutation-Rearr (length g.wires) _ x.pairing.fits.first_valid.producers) (below-member (length g.wires) v l)))
   where
     go : (Member v g.inputs) ⊎ (Member v (targets_of g.edges)) → (w : ℕ) × Has s.pairs (Wires v w)
     go (inl m) =
@@ -86,7 +87,8 @@ wires-known g h s x v l = go (member-split g.inputs (targets_of g.edges) v (Rear
 
 -- ## the lists of images
 
-pub is-isomorphism : (g h : PlainGraph) (s : Pairs) (es ws : List ℕ) → IsWhole g h s → length es ≡ length g.edges → length ws ≡ length g.wires → AreImages edge_there s.pairs (length g.edges) es → AreImages wire_there s.pairs (length g.wires) ws → IsIsomorphism g h es ws
+pub is-isomorphism : (g h : PlainGraph) (s : Pairs) (es ws : List ℕ) → IsWhole g h s → length es ≡ length g.edges → length ws ≡ length g.wires
+    → AreImages edge_there s.pairs (length g.edges) es → AreImages wire_there s.pairs (length g.wires) ws → IsIsomorphism g h es ws
 is-isomorphism g h s es ws x p q a b = record {
   edge_count = x.counts.edge_count;
   wire_count = x.counts.wire_count;
@@ -108,20 +110,24 @@ is-isomorphism g h s es ws x p q a b = record {
     wire v w k = let f : WiresFit g h v w = x.pairing.fits.pairs (Wires v w) k in let t = f.there in b v w (omega arith) (wires-there s.pairs x.pairing.matching v w k)
 
     edge : (e f : ℕ) → Has s.pairs (Edges e f) → slice_index es e ≡ f
-    edge e f k = let d : EdgesFit g h e f = x.pairing.fits.pairs (Edges e f) k in let t = slice_get-length g.edges e d.first d.first_is in a e f (omega arith) (edges-there s.pairs x.pairing.matching e f k)
+    edge e f k = let d : EdgesFit g h e f = x.pairing.fits.pairs (Edges e f) k in let t = slice_get-length g.edges e d.first d.first_is in a e f (omega arith)
+        (edges-there s.pairs x.pairing.matching e f k)
 
     wire-within : (v : ℕ) → v < length g.wires → slice_index ws v < length g.wires
-    wire-within v l = let w = wires-known g h s x v l in let f : WiresFit g h v w.0 = x.pairing.fits.pairs (Wires v w.0) w.1 in let t = f.within in let c = x.counts.wire_count in subst (λ z. z < length g.wires) (sym (wire v w.0 w.1)) (omega arith)
+    wire-within v l = let w = wires-known g h s x v l in let f : WiresFit g h v w.0 = x.pairing.fits.pairs
+        (Wires v w.0) w.1 in let t = f.within in let c = x.counts.wire_count in subst (λ z. z < length g.wires) (sym (wire v w.0 w.1)) (omega arith)
 
     edge-within : (v : ℕ) → v < length g.edges → slice_index es v < length g.edges
-    edge-within v l = let w = x.known v l in let f : EdgesFit g h v w.0 = x.pairing.fits.pairs (Edges v w.0) w.1 in let t = slice_get-length h.edges w.0 f.second f.second_is in let c = x.counts.edge_count in subst (λ z. z < length g.edges) (sym (edge v w.0 w.1)) (omega arith)
+    edge-within v l = let w = x.known v l in let f : EdgesFit g h v w.0 = x.pairing.fits.pairs
+        (Edges v w.0) w.1 in let t = slice_get-length h.edges w.0 f.second f.second_is in let c = x.counts.edge_count in subst (λ z. z < length g.edges) (sym (edge v w.0 w.1)) (omega arith)
 
     wire-apart : (i j : ℕ) → i < length g.wires → j < length g.wires → slice_index ws i ≡ slice_index ws j → i ≡ j
     wire-apart i j l m e =
         let v = wires-known g h s x i l in
         let w = wires-known g h s x j m in
         let z : v.0 ≡ w.0 = sym (wire i v.0 v.1) ∙ e ∙ wire j w.0 w.1 in
-        let c : ◌≡◌ {A = Option ℕ} (Some i) (Some j) = sym (wires-back s.pairs x.pairing.matching i w.0 (subst (λ y. Has s.pairs (Wires i y)) z v.1)) ∙ wires-back s.pairs x.pairing.matching j w.0 w.1 in
+        let c : ◌≡◌ {A = Option ℕ} (Some i) (Some j) = sym (wires-back s.pairs x.pairing.matching i w.0 (subst (λ y. Has s.pairs (Wires i y)) z v.1))
+        ∙ wires-back s.pairs x.pairing.matching j w.0 w.1 in
         cc
 
     edge-apart : (i j : ℕ) → i < length g.edges → j < length g.edges → slice_index es i ≡ slice_index es j → i ≡ j
@@ -129,7 +135,8 @@ is-isomorphism g h s es ws x p q a b = record {
         let v = x.known i l in
         let w = x.known j m in
         let z : v.0 ≡ w.0 = sym (edge i v.0 v.1) ∙ e ∙ edge j w.0 w.1 in
-        let c : ◌≡◌ {A = Option ℕ} (Some i) (Some j) = sym (edges-back s.pairs x.pairing.matching i w.0 (subst (λ y. Has s.pairs (Edges i y)) z v.1)) ∙ edges-back s.pairs x.pairing.matching j w.0 w.1 in
+        let c : ◌≡◌ {A = Option ℕ} (Some i) (Some j) = sym (edges-back s.pairs x.pairing.matching i w.0 (subst (λ y. Has s.pairs (Edges i y)) z v.1))
+        ∙ edges-back s.pairs x.pairing.matching j w.0 w.1 in
         cc
 
 -- ## lists of images are isomorphisms
@@ -163,7 +170,8 @@ is-isomorphic g h es ws x = record {
 
 -- ## what the comparisons of counts answer
 
-pub counts-answer : (g h : PlainGraph) (a b c d : ℕ) → a ≡ length g.edges → b ≡ length h.edges → a ≡ b → c ≡ length g.wires → d ≡ length h.wires → MatchBool (eqb c d) (HaveSameCounts g h) (Isomorphic g h → ⊥)
+pub counts-answer : (g h : PlainGraph) (a b c d : ℕ) → a ≡ length g.edges → b ≡ length h.edges → a ≡ b → c ≡ length g.wires → d ≡ length h.wires
+    → MatchBool (eqb c d) (HaveSameCounts g h) (Isomorphic g h → ⊥)
 counts-answer g h a b c d p q e r s = go (eqb_tells c d)
   where
     go : ((eqb c d ≡ true) × (c ≡ d)) ⊎ ((eqb c d ≡ false) × (c ≢ d)) → MatchBool (eqb c d) (HaveSameCounts g h) (Isomorphic g h → ⊥)

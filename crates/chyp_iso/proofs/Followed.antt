@@ -24,7 +24,8 @@ Leads-trans g h seeds s t u a b = record {
 }
 
 -- with other seeds, which pass each test that the pairs and the seeds pass
-pub Leads-seeds : (g h : PlainGraph) (seeds others : List Pair) (s t : Pairs) → Leads g h others s t → ((test : Pair → Bool) → IsClosedUnder g h test → Passes test s.pairs → Passes test seeds → Passes test others) → Leads g h seeds s t
+pub Leads-seeds : (g h : PlainGraph) (seeds others : List Pair) (s t : Pairs) → Leads g h others s t
+    → ((test : Pair → Bool) → IsClosedUnder g h test → Passes test s.pairs → Passes test seeds → Passes test others) → Leads g h seeds s t
 Leads-seeds g h seeds others s t a f = record {
   edges = a.edges;
   wires = a.wires;
@@ -111,7 +112,8 @@ Leads-maps g h seeds s t v l iso a b p m =
     made-maps g h iso p (l.follows (made_by iso) (made-closed g h v iso) (λ q k. maps-made g h iso q (a q k)) (λ q k. maps-made g h iso q (b q k)) p m)
 
 -- what refutes what follows refutes what it follows from
-pub Refutes-after : (g h : PlainGraph) (seeds others : List Pair) (s t : Pairs) → IsValid h → Leads g h seeds s t → ((iso : Isomorphic g h) → Maps iso t.pairs → Maps iso seeds → Maps iso others) → Refutes g h others t.pairs → Refutes g h seeds s.pairs
+pub Refutes-after : (g h : PlainGraph) (seeds others : List Pair) (s t : Pairs) → IsValid h → Leads g h seeds s t
+    → ((iso : Isomorphic g h) → Maps iso t.pairs → Maps iso seeds → Maps iso others) → Refutes g h others t.pairs → Refutes g h seeds s.pairs
 Refutes-after g h seeds others s t v l f r iso a b =
     let m = Leads-maps g h seeds s t v l iso a b in
     r iso m (f iso m b)

@@ -39,7 +39,8 @@ place ports (e ∷ es) (suc k) i w h =
     ap (slice_get (ports e ++ flat_map ports es)) q ∙ get-append_right (ports e) (flat_map ports es) (before ports es k + i) ∙ place ports es k i w h
 
 -- a port that stands at one place with another is that one
-same-place : (ports : Edge → List ℕ) (es : List Edge) (k i w k' i' w' : ℕ) → port_of ports es k i ≡ Some w → port_of ports es k' i' ≡ Some w' → before ports es k + i ≡ before ports es k' + i' → (k ≡ k') × (i ≡ i')
+same-place : (ports : Edge → List ℕ) (es : List Edge) (k i w k' i' w' : ℕ) → port_of ports es k i ≡ Some w → port_of ports es k' i' ≡ Some w'
+    → before ports es k + i ≡ before ports es k' + i' → (k ≡ k') × (i ≡ i')
 unfolding before
 same-place ports [] k i w k' i' w' h h' e = cc
 same-place ports (d ∷ es) zero i w zero i' w' h h' e = (refl, omega arith)
@@ -48,7 +49,8 @@ same-place ports (d ∷ es) (suc k) i w zero i' w' h h' e = let l = slice_get-le
 same-place ports (d ∷ es) (suc k) i w (suc k') i' w' h h' e = let r = same-place ports es k i w k' i' w' h h' (omega arith) in (ap suc r.0, r.1)
 
 -- a wire is a port once
-pub port-once : (ports : Edge → List ℕ) (es : List Edge) (n : ℕ) (ends : List ℕ) → IsPermutation n (ends ++ flat_map ports es) → (k i k' i' w : ℕ) → port_of ports es k i ≡ Some w → port_of ports es k' i' ≡ Some w → (k ≡ k') × (i ≡ i')
+pub port-once : (ports : Edge → List ℕ) (es : List Edge) (n : ℕ) (ends : List ℕ) → IsPermutation n (ends ++ flat_map ports es) → (k i k' i' w : ℕ)
+    → port_of ports es k i ≡ Some w → port_of ports es k' i' ≡ Some w → (k ≡ k') × (i ≡ i')
 port-once ports es n ends t k i k' i' w h h' =
     let x = before ports es k + i in
     let y = before ports es k' + i' in

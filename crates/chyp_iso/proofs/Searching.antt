@@ -45,7 +45,8 @@ part-pairing g h seeds s u w l c m = record {
   ends = λ p k. Leads-has g h seeds s u l p (w.ends p k);
 }
 
-pub part-answer : (g h : PlainGraph) (e f : ℕ) (s t u : Pairs) (b : Bool) → IsPairing g h s → Leads g h (Edges e f ∷ []) s t → Has t.pairs (Edges e f) → Leads g h [] t u → MatchBool b (IsComplete g h u.pairs × IsMatching u.pairs) (Refutes g h [] t.pairs)
+pub part-answer : (g h : PlainGraph) (e f : ℕ) (s t u : Pairs) (b : Bool) → IsPairing g h s → Leads g h (Edges e f ∷ []) s t → Has t.pairs (Edges e f)
+    → Leads g h [] t u → MatchBool b (IsComplete g h u.pairs × IsMatching u.pairs) (Refutes g h [] t.pairs)
     → MatchBool b (Has u.pairs (Edges e f) × IsPairing g h u) (Refutes g h (Edges e f ∷ []) s.pairs)
 part-answer g h e f s t u true w l k m r = (Leads-has g h [] t u m (Edges e f) k, part-pairing g h (Edges e f ∷ []) s u w (part-leads g h (Edges e f ∷ []) s t u l m) r.0 r.1)
 part-answer g h e f s t u false w l k m r = Refutes-after g h (Edges e f ∷ []) [] s t w.fits.second_valid l (λ iso x y p z. absurd z) r
@@ -158,16 +159,20 @@ shape-edge g h k f d e q = go (slice_get h.edges f) refl (q ∙ some-shape g k d
         alike c s = record { names = ap first s; source_count = ap second s; target_count = ap third s }
 
 -- an edge with the ports at the images of another's is that edge renamed
-pub edge-renamed : (g h : PlainGraph) (wire : ℕ → ℕ) (k f : ℕ) → k < length g.edges → shape h f ≡ shape g k → ((side : Side) (i v : ℕ) → IsPortAt g side k i v → IsPortAt h side f i (wire v)) → slice_get h.edges f ≡ option_map (renamed wire) (slice_get g.edges k)
+pub edge-renamed : (g h : PlainGraph) (wire : ℕ → ℕ) (k f : ℕ) → k < length g.edges → shape h f ≡ shape g k
+    → ((side : Side) (i v : ℕ) → IsPortAt g side k i v → IsPortAt h side f i (wire v)) → slice_get h.edges f ≡ option_map (renamed wire) (slice_get g.edges k)
 edge-renamed g h wire k f l q p =
     let d = found g.edges k l in
     let c = shape-edge g h k f d.0 d.1 q in
-    let s : c.0.sources ≡ map wire d.0.sources = list-map wire d.0.sources c.0.sources c.2.source_count (λ i v a. sym (port-is h the_sources f i c.0 c.1) ∙ p the_sources i v (port-is g the_sources k i d.0 d.1 ∙ a)) in
-    let t : c.0.targets ≡ map wire d.0.targets = list-map wire d.0.targets c.0.targets c.2.target_count (λ i v a. sym (port-is h the_targets f i c.0 c.1) ∙ p the_targets i v (port-is g the_targets k i d.0 d.1 ∙ a)) in
+    let s : c.0.sources ≡ map wire d.0.sources = list-map wire d.0.sources c.0.sources c.2.source_count
+    (λ i v a. sym (port-is h the_sources f i c.0 c.1) ∙ p the_sources i v (port-is g the_sources k i d.0 d.1 ∙ a)) in
+    let t : c.0.targets ≡ map wire d.0.targets = list-map wire d.0.targets c.0.targets c.2.target_count
+    (λ i v a. sym (port-is h the_targets f i c.0 c.1) ∙ p the_targets i v (port-is g the_targets k i d.0 d.1 ∙ a)) in
     c.1 ∙ ap Some (same c.0.name d.0.name c.0.sources _ c.0.targets _ c.2.names s t) ∙ sym (ap (option_map (renamed wire)) d.1)
   where
     same : (a b c d x y : List ℕ) → a ≡ b → c ≡ d → x ≡ y → ◌≡◌ {A = Edge} (record { name = a; sources = c; targets = x }) (record { name = b; sources = d; targets = y })
-    same a b c d x y m n o = ap (λ r. record { name = r; sources = c; targets = x }) m ∙ ap (λ r. record { name = b; sources = r; targets = x }) n ∙ ap (λ r. record { name = b; sources = d; targets = r }) o
+    same a b c d x y m n o =
+        ap (λ r. record { name = r; sources = c; targets = x }) m ∙ ap (λ r. record { name = b; sources = r; targets = x }) n ∙ ap (λ r. record { name = b; sources = d; targets = r }) o
 
 -- wires that are paired place by place are images place by place
 pub list-images : (f : ℕ → ℕ) (vs ws : List ℕ) (ps : List Pair) → length vs ≡ length ws → Includes (wire_pairs vs ws) ps → ((v w : ℕ) → Has ps (Wires v w) → f v ≡ w) → ws ≡ map f vs
@@ -202,7 +207,8 @@ abbrev pub test_of : (wires edges : ℕ → ℕ → Bool) → Pair → Bool
 test_of wires edges (Wires v w) = wires v w
 test_of wires edges (Edges e f) = edges e f
 
-grown : (g h : PlainGraph) (s t : Pairs) (e f : ℕ) (iso : Isomorphic g h) → IsPairing g h s → IsPairing g h t → Leads g h (Edges e f ∷ []) s t → Has t.pairs (Edges e f) → image edge_there s.pairs e ≡ None → Maps iso s.pairs → IsGrown g h (part_of s.pairs) (part_of t.pairs) (full_of iso) e f
+grown : (g h : PlainGraph) (s t : Pairs) (e f : ℕ) (iso : Isomorphic g h) → IsPairing g h s → IsPairing g h t → Leads g h (Edges e f ∷ []) s t
+    → Has t.pairs (Edges e f) → image edge_there s.pairs e ≡ None → Maps iso s.pairs → IsGrown g h (part_of s.pairs) (part_of t.pairs) (full_of iso) e f
 grown g h s t e f iso a b l k n m = record {
   small = is-part g h s a.fits a.matching a.complete;
   large = is-part g h t b.fits b.matching b.complete;
@@ -240,7 +246,8 @@ grown g h s t e f iso a b l k n m = record {
     one wires edges q p (inr x) = absurd x
 
 -- an isomorphism that makes the pairs before a part is paired can be changed to one that makes those after
-pub exchanged : (g h : PlainGraph) (s t : Pairs) (e f : ℕ) (iso : Isomorphic g h) → IsPairing g h s → IsPairing g h t → Leads g h (Edges e f ∷ []) s t → Has t.pairs (Edges e f) → image edge_there s.pairs e ≡ None → Maps iso s.pairs → (other : Isomorphic g h) × Maps other t.pairs
+pub exchanged : (g h : PlainGraph) (s t : Pairs) (e f : ℕ) (iso : Isomorphic g h) → IsPairing g h s → IsPairing g h t → Leads g h (Edges e f ∷ []) s t
+    → Has t.pairs (Edges e f) → image edge_there s.pairs e ≡ None → Maps iso s.pairs → (other : Isomorphic g h) × Maps other t.pairs
 unfolding full-iso
 exchanged g h s t e f iso a b l k n m = (full-iso g h t (switched (part_of t.pairs) (full_of iso)) b is wires, maps)
   where
@@ -267,7 +274,8 @@ extended-trans g h s t u a b = record {
   exchanged = λ iso m. let r = a.exchanged iso m in b.exchanged r.0 r.1;
 }
 
-pub extended-part : (g h : PlainGraph) (s t : Pairs) (e f : ℕ) → IsPairing g h s → IsPairing g h t → Leads g h (Edges e f ∷ []) s t → Has t.pairs (Edges e f) → image edge_there s.pairs e ≡ None → IsExtended g h s t
+pub extended-part : (g h : PlainGraph) (s t : Pairs) (e f : ℕ) → IsPairing g h s → IsPairing g h t → Leads g h (Edges e f ∷ []) s t → Has t.pairs (Edges e f)
+    → image edge_there s.pairs e ≡ None → IsExtended g h s t
 extended-part g h s t e f a b l k n = record {
   whole = b;
   kept = λ p m. Leads-has g h (Edges e f ∷ []) s t l p m;

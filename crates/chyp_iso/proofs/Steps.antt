@@ -75,7 +75,8 @@ pub other_edge-refutes : (g h : PlainGraph) (ps : List Pair) (v w u : ℕ) → H
 other_edge-refutes g h ps v w u k n iso a b = n (sym (a (Edges v u) k) ∙ b (Edges v w) (inl refl))
 
 -- one wire comes from one wire
-pub taken_wire-refutes : (g h : PlainGraph) (s : Pairs) → Fits g h s → IsMatching s.pairs → (v w u : ℕ) → v < length g.wires → Has s.pairs (Wires u w) → image wire_there s.pairs v ≡ None → Refutes g h (Wires v w ∷ []) s.pairs
+pub taken_wire-refutes : (g h : PlainGraph) (s : Pairs) → Fits g h s → IsMatching s.pairs → (v w u : ℕ) → v < length g.wires → Has s.pairs (Wires u w)
+    → image wire_there s.pairs v ≡ None → Refutes g h (Wires v w ∷ []) s.pairs
 taken_wire-refutes g h s f m v w u l k n iso a b =
     let x : iso.wire u ≡ w = a (Wires u w) k in
     let y : iso.wire v ≡ w = b (Wires v w) (inl refl) in
@@ -85,7 +86,8 @@ taken_wire-refutes g h s f m v w u l k n iso a b =
     let c : ◌≡◌ {A = Option ℕ} None (Some w) = sym n ∙ z in
     cc
 
-pub taken_edge-refutes : (g h : PlainGraph) (s : Pairs) → Fits g h s → IsMatching s.pairs → (v w u : ℕ) → v < length g.edges → Has s.pairs (Edges u w) → image edge_there s.pairs v ≡ None → Refutes g h (Edges v w ∷ []) s.pairs
+pub taken_edge-refutes : (g h : PlainGraph) (s : Pairs) → Fits g h s → IsMatching s.pairs → (v w u : ℕ) → v < length g.edges → Has s.pairs (Edges u w)
+    → image edge_there s.pairs v ≡ None → Refutes g h (Edges v w ∷ []) s.pairs
 taken_edge-refutes g h s f m v w u l k n iso a b =
     let x : iso.edge u ≡ w = a (Edges u w) k in
     let y : iso.edge v ≡ w = b (Edges v w) (inl refl) in
@@ -110,7 +112,8 @@ alike-iso g h iso e first second p q =
       target_count = ap (λ d. length d.targets) s ∙ length-map first.targets iso.wire;
     }
 
-pub alike-refutes : (g h : PlainGraph) (ps : List Pair) (e f : ℕ) (first second : Edge) → slice_get g.edges e ≡ Some first → slice_get h.edges f ≡ Some second → (AreAlike first second → ⊥) → Refutes g h (Edges e f ∷ []) ps
+pub alike-refutes : (g h : PlainGraph) (ps : List Pair) (e f : ℕ) (first second : Edge) → slice_get g.edges e ≡ Some first → slice_get h.edges f ≡ Some second
+    → (AreAlike first second → ⊥) → Refutes g h (Edges e f ∷ []) ps
 alike-refutes g h ps e f first second p q n iso a b =
     n (alike-iso g h iso e first second p (ap (slice_get h.edges) (b (Edges e f) (inl refl)) ∙ q))
 
@@ -124,11 +127,13 @@ pub known_edge-answer : (g h : PlainGraph) (ps : List Pair) (v w u : ℕ) (b : B
 known_edge-answer g h ps v w u true i e = there-edges ps v w (i ∙ ap (λ x. Some x) (eqb-true u w (sym e)))
 known_edge-answer g h ps v w u false i e = other_edge-refutes g h ps v w u (there-edges ps v u i) (λ q. let r = eq-eqb u w q in cc)
 
-pub taken_wire-answer : (g h : PlainGraph) (s : Pairs) → Fits g h s → IsMatching s.pairs → (v w : ℕ) (r : Option ℕ) → v < length g.wires → r ≡ image wire_back s.pairs w → is_some r ≡ true → image wire_there s.pairs v ≡ None → Refutes g h (Wires v w ∷ []) s.pairs
+pub taken_wire-answer : (g h : PlainGraph) (s : Pairs) → Fits g h s → IsMatching s.pairs → (v w : ℕ) (r : Option ℕ) → v < length g.wires
+    → r ≡ image wire_back s.pairs w → is_some r ≡ true → image wire_there s.pairs v ≡ None → Refutes g h (Wires v w ∷ []) s.pairs
 taken_wire-answer g h s f m v w None l i e n = cc
 taken_wire-answer g h s f m v w (Some u) l i e n = taken_wire-refutes g h s f m v w u l (back-wires s.pairs u w (sym i)) n
 
-pub taken_edge-answer : (g h : PlainGraph) (s : Pairs) → Fits g h s → IsMatching s.pairs → (v w : ℕ) (r : Option ℕ) → v < length g.edges → r ≡ image edge_back s.pairs w → is_some r ≡ true → image edge_there s.pairs v ≡ None → Refutes g h (Edges v w ∷ []) s.pairs
+pub taken_edge-answer : (g h : PlainGraph) (s : Pairs) → Fits g h s → IsMatching s.pairs → (v w : ℕ) (r : Option ℕ) → v < length g.edges
+    → r ≡ image edge_back s.pairs w → is_some r ≡ true → image edge_there s.pairs v ≡ None → Refutes g h (Edges v w ∷ []) s.pairs
 taken_edge-answer g h s f m v w None l i e n = cc
 taken_edge-answer g h s f m v w (Some u) l i e n = taken_edge-refutes g h s f m v w u l (back-edges s.pairs u w (sym i)) n
 

@@ -79,7 +79,8 @@ switch-below n k m back f f' p b x l = go (m x) refl (back (f x)) refl
     go None e (Some u) d = subst (λ z. z < k) (sym (switch-taken m back f x u e d)) (b.there u (p.below u (f x) (p.again u (f x) d)))
     go None e None d = subst (λ z. z < k) (sym (switch-free m back f x e d)) (b.there x l)
 
-pub switch-again : (n k : ℕ) (m back : ℕ → Option ℕ) (f f' : ℕ → ℕ) → IsPartial n k m back → IsBijection n k f f' → CanSwitch n k m back f f' → (x : ℕ) → x < n → switch back m f' (switch m back f x) ≡ x
+pub switch-again : (n k : ℕ) (m back : ℕ → Option ℕ) (f f' : ℕ → ℕ) → IsPartial n k m back → IsBijection n k f f' → CanSwitch n k m back f f' → (x : ℕ) → x < n
+    → switch back m f' (switch m back f x) ≡ x
 switch-again n k m back f f' p b can x l = go (m x) refl (back (f x)) refl
   where
     free : (u : ℕ) → m x ≡ None → back (f x) ≡ Some u → CanSwitch n k m back f f' → back (f u) ≡ None
@@ -119,7 +120,8 @@ switch-bijection n k m back f f' p b can = record {
     flipped = record { there = b.back; back = b.there; there_back = b.back_there; back_there = b.there_back }
 
 -- what both keep is kept
-pub switch-keeps : {A : Type 0} (n k : ℕ) (m back : ℕ → Option ℕ) (f f' : ℕ → ℕ) (first second : ℕ → A) → IsPartial n k m back → IsBijection n k f f' → ((x y : ℕ) → m x ≡ Some y → second y ≡ first x) → ((x : ℕ) → x < n → second (f x) ≡ first x) → (x : ℕ) → x < n → second (switch m back f x) ≡ first x
+pub switch-keeps : {A : Type 0} (n k : ℕ) (m back : ℕ → Option ℕ) (f f' : ℕ → ℕ) (first second : ℕ → A) → IsPartial n k m back → IsBijection n k f f'
+    → ((x y : ℕ) → m x ≡ Some y → second y ≡ first x) → ((x : ℕ) → x < n → second (f x) ≡ first x) → (x : ℕ) → x < n → second (switch m back f x) ≡ first x
 switch-keeps {A} n k m back f f' first second p b s t x l = go (m x) refl (back (f x)) refl
   where
     go : (o : Option ℕ) → m x ≡ o → (q : Option ℕ) → back (f x) ≡ q → second (switch m back f x) ≡ first x

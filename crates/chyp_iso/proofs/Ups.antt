@@ -65,7 +65,8 @@ pub same-cond : (i j : ℕ) (ps : List Pair) → i ≡ j → cond (eqb i j) ps [
 same-cond i j ps e = rw (eq-eqb i j e) refl
 
 -- the edges of the two ports follow from the wires
-pub up-seeds : (g h : PlainGraph) (ps : List Pair) (side : Side) (v w : ℕ) (r q : Option (ℕ × ℕ)) → Has ps (Wires v w) → HasEnd g side v r → HasEnd h side w q → (test : Pair → Bool) → IsClosedUnder g h test → Passes test ps → Passes test [] → Passes test (port_pairs r q)
+pub up-seeds : (g h : PlainGraph) (ps : List Pair) (side : Side) (v w : ℕ) (r q : Option (ℕ × ℕ)) → Has ps (Wires v w) → HasEnd g side v r → HasEnd h side w q
+    → (test : Pair → Bool) → IsClosedUnder g h test → Passes test ps → Passes test [] → Passes test (port_pairs r q)
 up-seeds g h ps side v w None None k a b test c p n = n
 up-seeds g h ps side v w None (Some y) k a b test c p n = n
 up-seeds g h ps side v w (Some x) None k a b test c p n = n
@@ -76,7 +77,8 @@ up-seeds g h ps side v w (Some x) (Some y) k a b test c p n = go (cases_Bool (eq
     go (inl e) = rw e (passes-one test (Edges x.0 y.0) (c.up side x.0 y.0 x.1 v w (p (Wires v w) k) a.there (subst (λ i. IsPortAt h side y.0 i w) (sym (eqb-true x.1 y.1 e)) b.there)))
 
 -- what the isomorphism does to the ports
-pub up-maps : (g h : PlainGraph) (ps : List Pair) (side : Side) (v w : ℕ) (r q : Option (ℕ × ℕ)) → IsValid h → Has ps (Wires v w) → HasEnd g side v r → HasEnd h side w q → (iso : Isomorphic g h) → Maps iso ps → Maps iso [] → Maps iso (port_pairs r q)
+pub up-maps : (g h : PlainGraph) (ps : List Pair) (side : Side) (v w : ℕ) (r q : Option (ℕ × ℕ)) → IsValid h → Has ps (Wires v w) → HasEnd g side v r
+    → HasEnd h side w q → (iso : Isomorphic g h) → Maps iso ps → Maps iso [] → Maps iso (port_pairs r q)
 up-maps g h ps side v w r q t k a b iso m n p l =
     made-maps g h iso p (up-seeds g h ps side v w r q k a b (made_test iso) (made-closed g h t iso) (λ x y. maps-made g h iso x (m x y)) (passes-none (made_test iso)) p l)
   where
@@ -84,7 +86,8 @@ up-maps g h ps side v w r q t k a b iso m n p l =
     made_test iso = made_by iso
 
 -- an isomorphism takes ports to ports at one place
-pub up-place : (g h : PlainGraph) → IsValid g → IsValid h → (side : Side) (v w : ℕ) (r q : Option (ℕ × ℕ)) → v < length g.wires → HasEnd g side v r → HasEnd h side w q → (iso : Isomorphic g h) → iso.wire v ≡ w → at_one_place r q ≡ true
+pub up-place : (g h : PlainGraph) → IsValid g → IsValid h → (side : Side) (v w : ℕ) (r q : Option (ℕ × ℕ)) → v < length g.wires → HasEnd g side v r
+    → HasEnd h side w q → (iso : Isomorphic g h) → iso.wire v ≡ w → at_one_place r q ≡ true
 up-place g h s t side v w None None l a b iso m = refl
 up-place g h s t side v w None (Some y) l a b iso m =
     let x = iso-back g h iso side y.0 y.1 w b.there in
@@ -97,7 +100,8 @@ up-place g h s t side v w (Some x) (Some y) l a b iso m =
     eq-eqb x.1 y.1 (once h t side (iso.edge x.0) x.1 y.0 y.1 w p b.there).1
 
 -- the wires are followed where the edges of their ports are paired
-pub up-followed : (g h : PlainGraph) → IsValid g → IsValid h → (ps : List Pair) (side : Side) (v w : ℕ) (r q : Option (ℕ × ℕ)) → HasEnd g side v r → HasEnd h side w q → at_one_place r q ≡ true → Includes (port_pairs r q) ps → IsFollowedUp g h ps side v w
+pub up-followed : (g h : PlainGraph) → IsValid g → IsValid h → (ps : List Pair) (side : Side) (v w : ℕ) (r q : Option (ℕ × ℕ)) → HasEnd g side v r
+    → HasEnd h side w q → at_one_place r q ≡ true → Includes (port_pairs r q) ps → IsFollowedUp g h ps side v w
 up-followed g h s t ps side v w None None a b e k = record {
   there = λ d i p. absurd (a.none refl d i p);
   back = λ d i p. absurd (b.none refl d i p);
@@ -120,7 +124,8 @@ up-followed g h s t ps side v w (Some x) (Some y) a b e k = record {
     paired = k (Edges x.0 y.0) (subst (λ l. Has l (Edges x.0 y.0)) (sym (same-cond x.1 y.1 (Edges x.0 y.0 ∷ []) same)) (inl refl))
 
 -- what the step to the ports answers
-pub up-leads : (g h : PlainGraph) (s t : Pairs) (side : Side) (v w : ℕ) (r q : Option (ℕ × ℕ)) → Has s.pairs (Wires v w) → HasEnd g side v r → HasEnd h side w q → Leads g h (port_pairs r q) s t → Leads g h [] s t
+pub up-leads : (g h : PlainGraph) (s t : Pairs) (side : Side) (v w : ℕ) (r q : Option (ℕ × ℕ)) → Has s.pairs (Wires v w) → HasEnd g side v r → HasEnd h side w q
+    → Leads g h (port_pairs r q) s t → Leads g h [] s t
 up-leads g h s t side v w r q k a b l = Leads-seeds g h [] (port_pairs r q) s t l (up-seeds g h s.pairs side v w r q k a b)
 
 pub up-answer : (g h : PlainGraph) (s t : Pairs) (side : Side) (v w : ℕ) (r q : Option (ℕ × ℕ)) (b : Bool) → Fits g h s → Has s.pairs (Wires v w) → HasEnd g side v r → HasEnd h side w q

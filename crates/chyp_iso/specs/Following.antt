@@ -12,8 +12,10 @@ use Rattle.chyp_iso.specs.Scratch.{HasRoomFor}
 
 -- a test of pairs that passes from edges to the wires at one port, and from wires to the edges that have them at one port
 pub record IsClosedUnder (g h : PlainGraph) (test : Pair → Bool) : Type 0 where
-  pub down : (side : Side) (e f i v w : ℕ) → test (Edges e f) ≡ true → IsPortAt g side e i v → IsPortAt h side f i w → test (Wires v w) ≡ true
-  pub up : (side : Side) (e f i v w : ℕ) → test (Wires v w) ≡ true → IsPortAt g side e i v → IsPortAt h side f i w → test (Edges e f) ≡ true
+  pub down : (side : Side) (e f i v w : ℕ) → test (Edges e f) ≡ true → IsPortAt g side e i v → IsPortAt h side f i w
+      → test (Wires v w) ≡ true
+  pub up : (side : Side) (e f i v w : ℕ) → test (Wires v w) ≡ true → IsPortAt g side e i v → IsPortAt h side f i w
+      → test (Edges e f) ≡ true
 
 -- each of the pairs passes the test
 abbrev pub Passes : (Pair → Bool) → List Pair → Type 0

@@ -12,6 +12,7 @@ pub record IsIsomorphism (g h : PlainGraph) (edges wires : List ℕ) : Type 0 wh
   pub edge_map : IsPermutation (length g.edges) edges
   pub wire_map : IsPermutation (length g.wires) wires
   pub sorts : (w : ℕ) → w < length g.wires → slice_get h.wires (slice_index wires w) ≡ slice_get g.wires w
-  pub ports : (k : ℕ) → k < length g.edges → slice_get h.edges (slice_index edges k) ≡ option_map (renamed (slice_index wires)) (slice_get g.edges k)
+  pub ports : (k : ℕ) → k < length g.edges → slice_get h.edges (slice_index edges k)
+      ≡ option_map (renamed (slice_index wires)) (slice_get g.edges k)
   pub inputs : h.inputs ≡ map (slice_index wires) g.inputs
   pub outputs : h.outputs ≡ map (slice_index wires) g.outputs

@@ -34,7 +34,9 @@ fn pair_ends(pairing: &mut Pairing, a: &Graph, b: &Graph) -> bool
     requires fits { Fits a.now b.now pairing.old }
     requires ends { HaveSameEnds a.now b.now }
     ensures leads { Leads a.now b.now (end_pairs a.now b.now) pairing.old pairing.new }
-    ensures outcome { MatchBool result (Includes (end_pairs a.now b.now) pairing.new.pairs) (Refutes a.now b.now (end_pairs a.now b.now) pairing.old.pairs) }
+    ensures outcome { MatchBool result
+        (Includes (end_pairs a.now b.now) pairing.new.pairs)
+        (Refutes a.now b.now (end_pairs a.now b.now) pairing.old.pairs) }
 {
     pair_lists(pairing, a, b, a.inputs(), b.inputs())
         && pair_lists(pairing, a, b, a.outputs(), b.outputs())

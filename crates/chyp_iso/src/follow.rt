@@ -1,6 +1,7 @@
 // Pairs that follow from others.
 ghost use Rattle.std.specs.Prelude.{◌≡◌, ◌<◌, [], ◌∷◌, All, IfSome, length, slice_get, true};
 ghost use Rattle.std.specs.Bool.{MatchBool};
+ghost use Rattle.chyp_graph.specs.Graph.{lent_edge};
 ghost use Rattle.chyp_iso.specs.Pair.{AreAlike, wire_pairs};
 ghost use Rattle.chyp_pairs.specs.Pairs.{Has, IsMatching, Pairs};
 ghost use Rattle.chyp_iso.specs.Port.{at_one_place, port_pairs, the_sources, the_targets};
@@ -14,7 +15,9 @@ use chyp_pairs::{Pair, Pairing};
 fn same_sort(a: &Graph, b: &Graph, v: WireId, w: WireId) -> bool
     requires there { v < length a.now.wires }
     requires within { w < length b.now.wires }
-    ensures { MatchBool result (slice_get b.now.wires w ≡ slice_get a.now.wires v) (slice_get b.now.wires w ≡ slice_get a.now.wires v → ⊥) }
+    ensures { MatchBool result
+        (slice_get b.now.wires w ≡ slice_get a.now.wires v)
+        (slice_get b.now.wires w ≡ slice_get a.now.wires v → ⊥) }
 {
     *a.wire_sort(v) == *b.wire_sort(w)
 }
@@ -44,8 +47,8 @@ pub(crate) fn pair_wires(pairing: &mut Pairing, a: &Graph, b: &Graph, v: WireId,
 /// Whether the edges have one name and as many ports.
 fn alike(first: EdgeView, second: EdgeView) -> bool
     ensures { MatchBool result
-        (AreAlike (record { name = first.entry.name.now; sources = first.entry.sources.now; targets = first.entry.targets.now }) (record { name = second.entry.name.now; sources = second.entry.sources.now; targets = second.entry.targets.now }))
-        (AreAlike (record { name = first.entry.name.now; sources = first.entry.sources.now; targets = first.entry.targets.now }) (record { name = second.entry.name.now; sources = second.entry.sources.now; targets = second.entry.targets.now }) → ⊥) }
+        (AreAlike (lent_edge first.entry) (lent_edge second.entry))
+        (AreAlike (lent_edge first.entry) (lent_edge second.entry) → ⊥) }
 {
     *first.name == *second.name
         && first.sources.len() == second.sources.len()
@@ -87,7 +90,9 @@ pub(crate) fn pair_lists(
     requires there { All (λ v. v < length a.now.wires) vs.now }
     requires within { All (λ w. w < length b.now.wires) ws.now }
     ensures leads { Leads a.now b.now (wire_pairs vs.now ws.now) pairing.old pairing.new }
-    ensures outcome { MatchBool result (Includes (wire_pairs vs.now ws.now) pairing.new.pairs) (Refutes a.now b.now (wire_pairs vs.now ws.now) pairing.old.pairs) }
+    ensures outcome { MatchBool result
+        (Includes (wire_pairs vs.now ws.now) pairing.new.pairs)
+        (Refutes a.now b.now (wire_pairs vs.now ws.now) pairing.old.pairs) }
 {
     for (i, v) in vs.iter().enumerate() {
         if !pair_wires(pairing, a, b, *v, ws[i]) {
@@ -127,7 +132,9 @@ fn follow_producers(pairing: &mut Pairing, a: &Graph, b: &Graph, v: WireId, w: W
     requires fits { Fits a.now b.now pairing.old }
     requires paired { Has pairing.old.pairs (Wires v w) }
     ensures leads { Leads a.now b.now [] pairing.old pairing.new }
-    ensures outcome { MatchBool result (IsFollowedUp a.now b.now pairing.new.pairs the_targets v w) (Refutes a.now b.now [] pairing.old.pairs) }
+    ensures outcome { MatchBool result
+        (IsFollowedUp a.now b.now pairing.new.pairs the_targets v w)
+        (Refutes a.now b.now [] pairing.old.pairs) }
 {
     let first = a.producer(v);
     let second = b.producer(w);
@@ -139,7 +146,9 @@ fn follow_consumers(pairing: &mut Pairing, a: &Graph, b: &Graph, v: WireId, w: W
     requires fits { Fits a.now b.now pairing.old }
     requires paired { Has pairing.old.pairs (Wires v w) }
     ensures leads { Leads a.now b.now [] pairing.old pairing.new }
-    ensures outcome { MatchBool result (IsFollowedUp a.now b.now pairing.new.pairs the_sources v w) (Refutes a.now b.now [] pairing.old.pairs) }
+    ensures outcome { MatchBool result
+        (IsFollowedUp a.now b.now pairing.new.pairs the_sources v w)
+        (Refutes a.now b.now [] pairing.old.pairs) }
 {
     let first = a.consumer(v);
     let second = b.consumer(w);
@@ -164,7 +173,9 @@ fn follow_pair(pairing: &mut Pairing, a: &Graph, b: &Graph, at: usize) -> bool
     requires fits { Fits a.now b.now pairing.old }
     requires there { at < length pairing.old.pairs }
     ensures leads { Leads a.now b.now [] pairing.old pairing.new }
-    ensures outcome { MatchBool result ((p : _) → slice_get pairing.old.pairs at ≡ Some p → IsFollowed a.now b.now pairing.new.pairs p) (Refutes a.now b.now [] pairing.old.pairs) }
+    ensures outcome { MatchBool result
+        ((p : _) → slice_get pairing.old.pairs at ≡ Some p → IsFollowed a.now b.now pairing.new.pairs p)
+        (Refutes a.now b.now [] pairing.old.pairs) }
 {
     match pairing.pair(at) {
         Pair::Wires(v, w) => {
@@ -179,7 +190,9 @@ pub(crate) fn follow_all(pairing: &mut Pairing, a: &Graph, b: &Graph, from: usiz
     requires fits { Fits a.now b.now pairing.old }
     requires followed { AreFollowed a.now b.now pairing.old.pairs from }
     ensures leads { Leads a.now b.now [] pairing.old pairing.new }
-    ensures outcome { MatchBool result (IsComplete a.now b.now pairing.new.pairs × IsMatching pairing.new.pairs) (Refutes a.now b.now [] pairing.old.pairs) }
+    ensures outcome { MatchBool result
+        (IsComplete a.now b.now pairing.new.pairs × IsMatching pairing.new.pairs)
+        (Refutes a.now b.now [] pairing.old.pairs) }
 {
     let mut next = from;
     while next < pairing.len() {

@@ -28,7 +28,12 @@ impl Model for Room {
 
     ghost Value = { Room };
 
-    ghost view = { λ s. record { edges = s.pairing.edges; wires = s.pairing.wires; edge_images = s.edges.items; wire_images = s.wires.items } };
+    ghost view = { λ s. record {
+      edges = s.pairing.edges;
+      wires = s.pairing.wires;
+      edge_images = s.edges.items;
+      wire_images = s.wires.items;
+    } };
 
     ghost invariant = { λ s. IsBlank s.pairing s.edges.items s.wires.items };
 }

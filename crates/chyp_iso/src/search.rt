@@ -31,7 +31,9 @@ fn try_part(pairing: &mut Pairing, a: &Graph, b: &Graph, e: EdgeId, f: EdgeId) -
     requires there { e < length a.now.edges }
     requires within { f < length b.now.edges }
     ensures outcome { MatchBool result
-        (Leads a.now b.now (Edges e f ∷ []) pairing.old pairing.new × Has pairing.new.pairs (Edges e f) × IsPairing a.now b.now pairing.new)
+        (Leads a.now b.now (Edges e f ∷ []) pairing.old pairing.new
+        × Has pairing.new.pairs (Edges e f)
+        × IsPairing a.now b.now pairing.new)
         ((pairing.new ≡ pairing.old) × Refutes a.now b.now (Edges e f ∷ []) pairing.old.pairs) }
 {
     let count = pairing.len();
@@ -48,7 +50,8 @@ fn pair_somehow(pairing: &mut Pairing, a: &Graph, b: &Graph, e: EdgeId) -> bool
     requires whole { IsPairing a.now b.now pairing.old }
     requires there { e < length a.now.edges }
     ensures outcome { MatchBool result
-        (IsPairing a.now b.now pairing.new × ((f : ℕ) × Leads a.now b.now (Edges e f ∷ []) pairing.old pairing.new × Has pairing.new.pairs (Edges e f)))
+        (IsPairing a.now b.now pairing.new
+        × ((f : ℕ) × Leads a.now b.now (Edges e f ∷ []) pairing.old pairing.new × Has pairing.new.pairs (Edges e f)))
         ((iso : Isomorphic a.now b.now) → Maps iso pairing.old.pairs → ⊥) }
     ensures sizes { (pairing.new.edges ≡ pairing.old.edges) × (pairing.new.wires ≡ pairing.old.wires) }
 {

@@ -37,11 +37,15 @@ record ByLists (g h : PlainGraph) (ws wb es eb : List ℕ) : Type 0 where
   pub outputs : h.outputs ≡ map (slice_index ws) g.outputs
 
 decide-lists : (g h : PlainGraph) (ws wb es eb : List ℕ) → Decided (ByLists g h ws wb es eb)
-decide-lists g h ws wb es eb = decided-by (λ r. record { wires = r.0; edges = r.1.0; sorts = r.1.1.0; ports = r.1.1.1.0; inputs = r.1.1.1.1.0; outputs = r.1.1.1.1.1 }) (λ t. (t.wires, (t.edges, (t.sorts, (t.ports, (t.inputs, t.outputs))))))
+decide-lists g h ws wb es eb =
+    decided-by (λ r. record { wires = r.0; edges = r.1.0; sorts = r.1.1.0; ports = r.1.1.1.0; inputs = r.1.1.1.1.0; outputs = r.1.1.1.1.1 })
+    (λ t. (t.wires, (t.edges, (t.sorts, (t.ports, (t.inputs, t.outputs))))))
     (decide-both (decide-bijection (length g.wires) (length h.wires) (slice_index ws) (slice_index wb))
     (decide-both (decide-bijection (length g.edges) (length h.edges) (slice_index es) (slice_index eb))
-    (decide-both (decide-below (λ w. slice_get h.wires (slice_index ws w) ≡ slice_get g.wires w) (λ w. decide-option decide-sort (slice_get h.wires (slice_index ws w)) (slice_get g.wires w)) (length g.wires))
-    (decide-both (decide-below (λ k. slice_get h.edges (slice_index es k) ≡ option_map (renamed (slice_index ws)) (slice_get g.edges k)) (λ k. decide-option decide-edge (slice_get h.edges (slice_index es k)) (option_map (renamed (slice_index ws)) (slice_get g.edges k))) (length g.edges))
+    (decide-both (decide-below (λ w. slice_get h.wires (slice_index ws w) ≡ slice_get g.wires w)
+    (λ w. decide-option decide-sort (slice_get h.wires (slice_index ws w)) (slice_get g.wires w)) (length g.wires))
+    (decide-both (decide-below (λ k. slice_get h.edges (slice_index es k) ≡ option_map (renamed (slice_index ws)) (slice_get g.edges k))
+    (λ k. decide-option decide-edge (slice_get h.edges (slice_index es k)) (option_map (renamed (slice_index ws)) (slice_get g.edges k))) (length g.edges))
     (decide-both (decide-numbers h.inputs (map (slice_index ws) g.inputs)) (decide-numbers h.outputs (map (slice_index ws) g.outputs)))))))
 
 lists-isomorphic : (g h : PlainGraph) (ws wb es eb : List ℕ) → ByLists g h ws wb es eb → Isomorphic g h
@@ -106,7 +110,8 @@ module _ (g : PlainGraph) (v : IsValid g) where
           (same-images f e.sources (λ w m. source-below w (member-flat (λ e. e.sources) g.edges e w (get-member g.edges k e q) m)))
           (same-images f e.targets (λ w m. target-below w (member-flat (λ e. e.targets) g.edges e w (get-member g.edges k e q) m)))
 
-  isomorphic-lists : (h : PlainGraph) → (t : Isomorphic g h) → ByLists g h (images t.wire (length g.wires)) (images t.wire_back (length h.wires)) (images t.edge (length g.edges)) (images t.edge_back (length h.edges))
+  isomorphic-lists : (h : PlainGraph) → (t : Isomorphic g h) → ByLists g h (images t.wire (length g.wires)) (images t.wire_back (length h.wires))
+      (images t.edge (length g.edges)) (images t.edge_back (length h.edges))
   isomorphic-lists h t = record {
     wires = same-bijection (length g.wires) (length h.wires) t.wire t.wire_back t.wires;
     edges = same-bijection (length g.edges) (length h.edges) t.edge t.edge_back t.edges;

@@ -127,9 +127,11 @@ module _ (s t : Morphism) (ts : IsTyped s) (ty : IsTyped t) (g h : PlainGraph) (
 
   drawn-left : (e : EdgeOf s) → drawn s (λ e i. d.wire (Target e i)) g.inputs e ≡ drawn (beside s t) (λ e i. wire (Target e i)) (g.inputs ++ shifted (length g.wires) h.inputs) (inl e)
   unfolding wire
-  drawn-left e = ap (λ l. record { name = (label_of s e).name; sources = src s (λ e i. d.wire (Target e i)) l e; targets = map (λ i. d.wire (Target e i)) (count_from 0 (length (label_of s e).cod)) }) (sym front)
+  drawn-left e =
+      ap (λ l. record { name = (label_of s e).name; sources = src s (λ e i. d.wire (Target e i)) l e; targets = map (λ i. d.wire (Target e i)) (count_from 0 (length (label_of s e).cod)) }) (sym front)
 
-  drawn-right : (e : EdgeOf t) → renamed (λ w. length g.wires + w) (drawn t (λ e i. k.wire (Target e i)) h.inputs e) ≡ drawn (beside s t) (λ e i. wire (Target e i)) (g.inputs ++ shifted (length g.wires) h.inputs) (inr e)
+  drawn-right : (e : EdgeOf t) → renamed (λ w. length g.wires + w) (drawn t (λ e i. k.wire (Target e i)) h.inputs e) ≡ drawn (beside s t) (λ e i. wire (Target e i))
+      (g.inputs ++ shifted (length g.wires) h.inputs) (inr e)
   unfolding wire
   drawn-right e = ap₂ (λ a b. record { name = (label_of t e).name; sources = a; targets = b })
       (map-src (λ w. length g.wires + w) t ty (λ e i. k.wire (Target e i)) h.inputs (length-ins k) e ∙ ap (λ l. src t (λ e i. length g.wires + k.wire (Target e i)) l e) (sym rear))
@@ -149,10 +151,12 @@ module _ (s t : Morphism) (ts : IsTyped s) (ty : IsTyped t) (g h : PlainGraph) (
     outputs =
         ap₂ (λ a b. a ++ b)
         (d.outputs ∙ ap (run s (λ e i. d.wire (Target e i))) (sym front))
-        (ap (shifted (length g.wires)) k.outputs ∙ map-run (λ w. length g.wires + w) t ty (λ e i. k.wire (Target e i)) h.inputs (length-ins k) ∙ ap (run t (λ e i. length g.wires + k.wire (Target e i))) (sym rear));
+        (ap (shifted (length g.wires)) k.outputs ∙ map-run (λ w. length g.wires + w) t ty (λ e i. k.wire (Target e i)) h.inputs (length-ins k)
+        ∙ ap (run t (λ e i. length g.wires + k.wire (Target e i))) (sym rear));
     edges =
         ap₂ (λ a b. a ++ b)
-        (d.edges ∙ ap (λ f. map f (edges_of s)) (fun_ext drawn-left) ∙ sym (map-map (drawn (beside s t) (λ e i. wire (Target e i)) (g.inputs ++ shifted (length g.wires) h.inputs)) (λ e. inl e) (edges_of s)))
+        (d.edges ∙ ap (λ f. map f (edges_of s)) (fun_ext drawn-left) ∙ sym
+        (map-map (drawn (beside s t) (λ e i. wire (Target e i)) (g.inputs ++ shifted (length g.wires) h.inputs)) (λ e. inl e) (edges_of s)))
         (ap (map (renamed (λ w. length g.wires + w))) k.edges ∙ map-map (renamed (λ w. length g.wires + w)) (drawn t (λ e i. k.wire (Target e i)) h.inputs) (edges_of t)
         ∙ ap (λ f. map f (edges_of t)) (fun_ext drawn-right)
         ∙ sym (map-map (drawn (beside s t) (λ e i. wire (Target e i)) (g.inputs ++ shifted (length g.wires) h.inputs)) (λ e. inr e) (edges_of t)))

@@ -62,7 +62,8 @@ module _ (s t : Morphism) (ts : IsTyped s) (ty : IsTyped t) (m : cod s ≡ dom t
       ap (map (joined g h)) k.inputs
       ∙ map-map (joined g h) (λ j. k.wire (In j)) (count_from 0 (length (dom t)))
       ∙ ap (λ n. map (λ j. joined g h (k.wire (In j))) (count_from 0 n)) (sym length-outs)
-      ∙ map-index g.outputs 0 _ (λ j l. ap (λ x. joined g h (k.wire (In x))) (zero-add j) ∙ ap (joined_at g.outputs (length g.wires + length (inner h.inputs (k.wire (In j))))) (input_place j (subst (λ n. j < n) length-outs l)))
+      ∙ map-index g.outputs 0 _ (λ j l. ap (λ x. joined g h (k.wire (In x))) (zero-add j)
+      ∙ ap (joined_at g.outputs (length g.wires + length (inner h.inputs (k.wire (In j))))) (input_place j (subst (λ n. j < n) length-outs l)))
 
   pub length-kept : length (permuted h.wires kept) ≡ length kept
   unfolding kept
@@ -187,7 +188,9 @@ module _ (s t : Morphism) (ts : IsTyped s) (ty : IsTyped t) (m : cod s ≡ dom t
     from_wire = from_wire;
     sorts = sorts;
     inputs = d.inputs;
-    outputs = ap (map (joined g h)) k.outputs ∙ map-run (joined g h) t ty (λ e i. k.wire (Target e i)) h.inputs (length-ins k) ∙ ap (run t (λ e i. joined g h (k.wire (Target e i)))) (joined-inputs ∙ d.outputs);
+    outputs =
+        ap (map (joined g h)) k.outputs ∙ map-run (joined g h) t ty (λ e i. k.wire (Target e i)) h.inputs (length-ins k)
+        ∙ ap (run t (λ e i. joined g h (k.wire (Target e i)))) (joined-inputs ∙ d.outputs);
     edges =
         ap₂ (λ a b. a ++ b)
         (d.edges ∙ sym (map-map (drawn (then s t) (λ e i. wire (Target e i)) g.inputs) (λ e. inl e) (edges_of s)))

@@ -57,7 +57,8 @@ draws_of {t} {g} d = record {
   outputs = d.outputs;
   edge_onto = λ n l. let e = edge_of t n (subst (λ m. n < m) count l) in (e.0, e.1, number_at t n e.0 e.1);
   edge_back = edge_at t;
-  ports = λ e. ap (λ z. slice_get z (number t e)) d.edges ∙ get-map (drawn t (λ e i. d.wire (Target e i)) g.inputs) (edges_of t) (number t e) ∙ ap (option_map (drawn t (λ e i. d.wire (Target e i)) g.inputs)) (edge_at t e);
+  ports = λ e. ap (λ z. slice_get z (number t e)) d.edges ∙ get-map (drawn t (λ e i. d.wire (Target e i)) g.inputs) (edges_of t) (number t e)
+      ∙ ap (option_map (drawn t (λ e i. d.wire (Target e i)) g.inputs)) (edge_at t e);
 }
   where
     count : length g.edges ≡ length (edges_of t)

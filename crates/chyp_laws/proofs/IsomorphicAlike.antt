@@ -43,12 +43,18 @@ src-sorts (generator n a b) ty e = refl
 src-sorts (permutation a p) ty e = absurd e
 src-sorts (then s t) ty (inl e) = src-sorts s ty.0 e
 src-sorts (then s t) ty (inr e) = ap (λ l. src t (λ e i. slice_get (label_of t e).cod i) l e) (run-sorts s ty.0 ∙ ap (map (λ x. Some x)) ty.2) ∙ src-sorts t ty.1 e
-src-sorts (beside s t) ty (inl e) = ap (λ l. src s (λ e i. slice_get (label_of s e).cod i) l e) (take-map (λ x. Some x) (length (dom s)) (dom s ++ dom t) ∙ ap (map (λ x. Some x)) (take-left (dom s) (dom t) _ refl)) ∙ src-sorts s ty.0 e
-src-sorts (beside s t) ty (inr e) = ap (λ l. src t (λ e i. slice_get (label_of t e).cod i) l e) (drop-map (λ x. Some x) (length (dom s)) (dom s ++ dom t) ∙ ap (map (λ x. Some x)) (drop-left (dom s) (dom t) _ refl)) ∙ src-sorts t ty.1 e
+src-sorts (beside s t) ty (inl e) =
+    ap (λ l. src s (λ e i. slice_get (label_of s e).cod i) l e)
+    (take-map (λ x. Some x) (length (dom s)) (dom s ++ dom t) ∙ ap (map (λ x. Some x)) (take-left (dom s) (dom t) _ refl)) ∙ src-sorts s ty.0 e
+src-sorts (beside s t) ty (inr e) =
+    ap (λ l. src t (λ e i. slice_get (label_of t e).cod i) l e)
+    (drop-map (λ x. Some x) (length (dom s)) (dom s ++ dom t) ∙ ap (map (λ x. Some x)) (drop-left (dom s) (dom t) _ refl)) ∙ src-sorts t ty.1 e
 
 module _ (s : Morphism) (ts : IsTyped s) (g : PlainGraph) (d : Draws s g) where
   pub input-sorts : map (slice_get g.wires) g.inputs ≡ map (λ x. Some x) (dom s)
-  input-sorts = ap (map (slice_get g.wires)) d.inputs ∙ map-map (slice_get g.wires) (λ j. d.wire (In j)) (count_from 0 (length (dom s))) ∙ read-all (dom s) (λ j. slice_get g.wires (d.wire (In j))) (λ j l. d.sorts (In j) l)
+  input-sorts =
+      ap (map (slice_get g.wires)) d.inputs ∙ map-map (slice_get g.wires) (λ j. d.wire (In j)) (count_from 0 (length (dom s)))
+      ∙ read-all (dom s) (λ j. slice_get g.wires (d.wire (In j))) (λ j l. d.sorts (In j) l)
 
   output-sorts : map (slice_get g.wires) g.outputs ≡ map (λ x. Some x) (cod s)
   output-sorts =
@@ -66,7 +72,9 @@ module _ (s : Morphism) (ts : IsTyped s) (g : PlainGraph) (d : Draws s g) where
       ∙ src-sorts s ts e
 
   pub target-sorts : (e : EdgeOf s) → map (slice_get g.wires) (map (λ i. d.wire (Target e i)) (count_from 0 (length (label_of s e).cod))) ≡ map (λ x. Some x) (label_of s e).cod
-  target-sorts e = map-map (slice_get g.wires) (λ i. d.wire (Target e i)) (count_from 0 (length (label_of s e).cod)) ∙ read-all (label_of s e).cod (λ i. slice_get g.wires (d.wire (Target e i))) (λ i l. d.sorts (Target e i) l)
+  target-sorts e =
+      map-map (slice_get g.wires) (λ i. d.wire (Target e i)) (count_from 0 (length (label_of s e).cod))
+      ∙ read-all (label_of s e).cod (λ i. slice_get g.wires (d.wire (Target e i))) (λ i l. d.sorts (Target e i) l)
 
 pub map-count-at : {V : Type 0} (f g : ℕ → V) (k n i : ℕ) → map f (count_from k n) ≡ map g (count_from k n) → i < n → f (k + i) ≡ g (k + i)
 map-count-at f g k zero i e h = absurd (omega arith)
@@ -139,7 +147,9 @@ module _ (s t : Morphism) (ts : IsTyped s) (ty : IsTyped t) (g h : PlainGraph) (
       ∙ ap (λ j. k.wire (Target (to e) j)) (zero-add i)
     where
       same : map (λ j. k.wire (Target (to e) j)) (count_from 0 (length (label_of s e).cod)) ≡ map (λ j. m.wire (d.wire (Target e j))) (count_from 0 (length (label_of s e).cod))
-      same = ap (λ z. map (λ j. k.wire (Target (to e) j)) (count_from 0 (length z.cod))) (sym (labels e)) ∙ ap (λ z. z.targets) (port e) ∙ map-map m.wire (λ j. d.wire (Target e j)) (count_from 0 (length (label_of s e).cod))
+      same =
+          ap (λ z. map (λ j. k.wire (Target (to e) j)) (count_from 0 (length z.cod))) (sym (labels e)) ∙ ap (λ z. z.targets) (port e)
+          ∙ map-map m.wire (λ j. d.wire (Target e j)) (count_from 0 (length (label_of s e).cod))
 
   runs : run t (λ e i. k.wire (Target e i)) h.inputs ≡ run s (λ e i. k.wire (Target (to e) i)) h.inputs
   runs =

@@ -118,7 +118,8 @@ pub record IsProductOf (l : Parts) (g : PlainGraph) (k n : ℕ) : Type 0 where
 pub product-none : (l : Parts) (g : PlainGraph) → IsProductOf l g 0 1
 product-none l g = record { counts = []; are = tt; is = refl }
 
-pub product-more : (l : Parts) (g : PlainGraph) (k n m r : ℕ) (a : Anchor) → slice_get l.anchors k ≡ Some a → IsProductOf l g k n → IsCount (MayBegin l.graph g a) m → r ≡ min (n * m) most → IsProductOf l g (k + 1) r
+pub product-more : (l : Parts) (g : PlainGraph) (k n m r : ℕ) (a : Anchor) → slice_get l.anchors k ≡ Some a → IsProductOf l g k n → IsCount (MayBegin l.graph g a) m
+    → r ≡ min (n * m) most → IsProductOf l g (k + 1) r
 product-more l g k n m r a at t c is =
     record {
       counts = t.counts ++ m ∷ [];

@@ -9,7 +9,8 @@ use Rattle.chyp_pattern.specs.Occurrences.{AreOccurrences}
 
 -- there is one list of the occurrences of l in g, and only one
 abbrev pub OccurrencesAreListed : Type 0
-OccurrencesAreListed = (l g : PlainGraph) → (os : List Occurrence) × (AreOccurrences l g os) × ((ps : List Occurrence) → AreOccurrences l g ps → ps ≡ os)
+OccurrencesAreListed = (l g : PlainGraph)
+    → (os : List Occurrence) × (AreOccurrences l g os) × ((ps : List Occurrence) → AreOccurrences l g ps → ps ≡ os)
 
 -- a pattern has no more occurrences in a valid graph than the product that its placements count
 abbrev pub OccurrencesAreBounded : Type 0

@@ -30,7 +30,8 @@ looked-within t x y e = go (slice_get t x) refl e
 abbrev pub Shows : (Pair → Option (ℕ × ℕ)) → List Pair → List (Option ℕ) → Type 0
 Shows says ps t = (z : ℕ) → looked_up t z ≡ image says ps z
 
-pub shows-add : (says : Pair → Option (ℕ × ℕ)) (ps : List Pair) (t : List (Option ℕ)) (p : Pair) (x y : ℕ) → Shows says ps t → x < length t → says p ≡ Some (x, y) → image says ps x ≡ None → Shows says (ps ++ p ∷ []) (slice_set t x (Some y))
+pub shows-add : (says : Pair → Option (ℕ × ℕ)) (ps : List Pair) (t : List (Option ℕ)) (p : Pair) (x y : ℕ) → Shows says ps t → x < length t → says p ≡ Some (x, y)
+    → image says ps x ≡ None → Shows says (ps ++ p ∷ []) (slice_set t x (Some y))
 shows-add says ps t p x y s h e n z = go (cases_eq z x)
   where
     go : (z ≡ x) ⊎ (z ≡ x → ⊥) → looked_up (slice_set t x (Some y)) z ≡ image says (ps ++ p ∷ []) z
@@ -54,7 +55,8 @@ shows-skip says ps t p s e z = s z ∙ image-skip says ps p z e
 pub shows-unskip : (says : Pair → Option (ℕ × ℕ)) (ps : List Pair) (t : List (Option ℕ)) (p : Pair) → Shows says (ps ++ p ∷ []) t → says p ≡ None → Shows says ps t
 shows-unskip says ps t p s e z = s z ∙ sym (image-skip says ps p z e)
 
-pub shows-drop : (says : Pair → Option (ℕ × ℕ)) (ps : List Pair) (t : List (Option ℕ)) (p : Pair) (x y : ℕ) → Shows says (ps ++ p ∷ []) t → x < length t → says p ≡ Some (x, y) → image says ps x ≡ None → Shows says ps (slice_set t x None)
+pub shows-drop : (says : Pair → Option (ℕ × ℕ)) (ps : List Pair) (t : List (Option ℕ)) (p : Pair) (x y : ℕ) → Shows says (ps ++ p ∷ []) t → x < length t
+    → says p ≡ Some (x, y) → image says ps x ≡ None → Shows says ps (slice_set t x None)
 shows-drop says ps t p x y s h e n z = go (cases_eq z x)
   where
     go : (z ≡ x) ⊎ (z ≡ x → ⊥) → looked_up (slice_set t x None) z ≡ image says ps z
@@ -88,7 +90,8 @@ filled-le (Some z ∷ t) = let r = filled-le t in omega arith
 pub filled-lt : (t : List (Option ℕ)) (x : ℕ) → x < length t → looked_up t x ≡ None → filled t < length t
 filled-lt t x h e = let a = filled-add t x 0 h e in let b = filled-le (slice_set t x (Some 0)) in let c = length-set t x (Some 0) in omega arith
 
-pub matching-push : (ps : List Pair) (p : Pair) → IsMatching ps → IsNewIn (wire_there p) (image wire_there ps) → IsNewIn (wire_back p) (image wire_back ps) → IsNewIn (edge_there p) (image edge_there ps) → IsNewIn (edge_back p) (image edge_back ps) → IsMatching (ps ++ p ∷ [])
+pub matching-push : (ps : List Pair) (p : Pair) → IsMatching ps → IsNewIn (wire_there p) (image wire_there ps) → IsNewIn (wire_back p) (image wire_back ps)
+    → IsNewIn (edge_there p) (image edge_there ps) → IsNewIn (edge_back p) (image edge_back ps) → IsMatching (ps ++ p ∷ [])
 matching-push ps p m a b c d = record {
   wires_there = single-push wire_there ps p m.wires_there a;
   wires_back = single-push wire_back ps p m.wires_back b;
@@ -107,7 +110,8 @@ matching-first ps p m = record {
 pub length-push : (ps : List Pair) (p : Pair) → length (ps ++ p ∷ []) ≡ suc (length ps)
 length-push ps p = let a = length-append ps (p ∷ []) in omega arith
 
-pub kept-add_wires : (ps : List Pair) (ws wb es eb : List (Option ℕ)) (room v w : ℕ) → IsKept ps ws wb es eb room → v < length ws → w < length ws → image wire_there ps v ≡ None → image wire_back ps w ≡ None → IsKept (ps ++ Wires v w ∷ []) (slice_set ws v (Some w)) (slice_set wb w (Some v)) es eb room
+pub kept-add_wires : (ps : List Pair) (ws wb es eb : List (Option ℕ)) (room v w : ℕ) → IsKept ps ws wb es eb room → v < length ws → w < length ws
+    → image wire_there ps v ≡ None → image wire_back ps w ≡ None → IsKept (ps ++ Wires v w ∷ []) (slice_set ws v (Some w)) (slice_set wb w (Some v)) es eb room
 kept-add_wires ps ws wb es eb room v w k a b n m = record {
   matching = matching-push ps (Wires v w) k.matching n m tt tt;
   wire_images = shows-add wire_there ps ws (Wires v w) v w k.wire_images a refl n;
@@ -120,7 +124,8 @@ kept-add_wires ps ws wb es eb room v w k a b n m = record {
   enough = let e = k.enough in let l = length-set ws v (Some w) in omega arith;
 }
 
-pub kept-add_edges : (ps : List Pair) (ws wb es eb : List (Option ℕ)) (room v w : ℕ) → IsKept ps ws wb es eb room → v < length es → w < length es → image edge_there ps v ≡ None → image edge_back ps w ≡ None → IsKept (ps ++ Edges v w ∷ []) ws wb (slice_set es v (Some w)) (slice_set eb w (Some v)) room
+pub kept-add_edges : (ps : List Pair) (ws wb es eb : List (Option ℕ)) (room v w : ℕ) → IsKept ps ws wb es eb room → v < length es → w < length es
+    → image edge_there ps v ≡ None → image edge_back ps w ≡ None → IsKept (ps ++ Edges v w ∷ []) ws wb (slice_set es v (Some w)) (slice_set eb w (Some v)) room
 kept-add_edges ps ws wb es eb room v w k a b n m = record {
   matching = matching-push ps (Edges v w) k.matching tt tt n m;
   wire_images = shows-skip wire_there ps ws (Edges v w) k.wire_images refl;
@@ -146,7 +151,8 @@ kept-edges_within ps ws wb es eb room v w k = (
   k.edge_sources w ∙ image-past edge_back ps (Edges v w ∷ []) w (single-last edge_back ps (Edges v w) k.matching.edges_back) ∙ image-one edge_back (Edges v w) w v refl,
 )
 
-pub kept-drop_wires : (ps : List Pair) (ws wb es eb : List (Option ℕ)) (room v w : ℕ) → IsKept (ps ++ Wires v w ∷ []) ws wb es eb room → IsKept ps (slice_set ws v None) (slice_set wb w None) es eb room
+pub kept-drop_wires : (ps : List Pair) (ws wb es eb : List (Option ℕ)) (room v w : ℕ) → IsKept (ps ++ Wires v w ∷ []) ws wb es eb room
+    → IsKept ps (slice_set ws v None) (slice_set wb w None) es eb room
 kept-drop_wires ps ws wb es eb room v w k =
     let r = kept-wires_within ps ws wb es eb room v w k in
     record {
@@ -161,7 +167,8 @@ kept-drop_wires ps ws wb es eb room v w k =
       enough = let e = k.enough in let l = length-set ws v None in omega arith;
     }
 
-pub kept-drop_edges : (ps : List Pair) (ws wb es eb : List (Option ℕ)) (room v w : ℕ) → IsKept (ps ++ Edges v w ∷ []) ws wb es eb room → IsKept ps ws wb (slice_set es v None) (slice_set eb w None) room
+pub kept-drop_edges : (ps : List Pair) (ws wb es eb : List (Option ℕ)) (room v w : ℕ) → IsKept (ps ++ Edges v w ∷ []) ws wb es eb room
+    → IsKept ps ws wb (slice_set es v None) (slice_set eb w None) room
 kept-drop_edges ps ws wb es eb room v w k =
     let r = kept-edges_within ps ws wb es eb room v w k in
     record {
@@ -210,7 +217,8 @@ filled-none : (n : ℕ) → filled (replicate n None) ≡ 0
 filled-none zero = refl
 filled-none (suc n) = filled-none n
 
-pub kept-none : (e w room : ℕ) (ws wb es eb : List (Option ℕ)) (ps : List Pair) → ps ≡ [] → ws ≡ replicate w None → wb ≡ replicate w None → es ≡ replicate e None → eb ≡ replicate e None → e + w ≤ room → IsKept ps ws wb es eb room
+pub kept-none : (e w room : ℕ) (ws wb es eb : List (Option ℕ)) (ps : List Pair) → ps ≡ [] → ws ≡ replicate w None → wb ≡ replicate w None → es ≡ replicate e None
+    → eb ≡ replicate e None → e + w ≤ room → IsKept ps ws wb es eb room
 kept-none e w room ws wb es eb ps p a b c d h = rw (p, a, b, c, d) (record {
   matching = record { wires_there = tt; wires_back = tt; edges_there = tt; edges_back = tt };
   wire_images = looked-none w;

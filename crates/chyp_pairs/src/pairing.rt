@@ -30,7 +30,13 @@ impl Model for Pairing {
 
     ghost view = { λ s. record { pairs = s.trail.items; edges = length s.edges.items; wires = length s.wires.items } };
 
-    ghost invariant = { λ s. IsKept s.trail.items s.wires.items s.wires_back.items s.edges.items s.edges_back.items (vec_capacity s.trail) };
+    ghost invariant = { λ s. IsKept
+        s.trail.items
+        s.wires.items
+        s.wires_back.items
+        s.edges.items
+        s.edges_back.items
+        (vec_capacity s.trail) };
 }
 
 impl Pairing {

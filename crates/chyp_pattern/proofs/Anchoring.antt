@@ -111,7 +111,8 @@ first-skip g n anchors s t c =
     in-range j k a (inl b) l = t.found j k b a
     in-range j k a (inr b) l = let e : j ≡ n = omega arith in first-closed g n anchors s t n k c (subst (λ j. AreJoined g j k) e a)
 
-pub first-push : (g : PlainGraph) (n : ℕ) (anchors after : List Anchor) (s t : Found) → AreFirstBelow g n anchors s → n < length g.edges → (Contains s.found n → ⊥) → after ≡ anchors ++ Edge n ∷ [] → IsComponentFound g n s t
+pub first-push : (g : PlainGraph) (n : ℕ) (anchors after : List Anchor) (s t : Found) → AreFirstBelow g n anchors s → n < length g.edges → (Contains s.found n → ⊥)
+    → after ≡ anchors ++ Edge n ∷ [] → IsComponentFound g n s t
     → AreFirstBelow g (n + 1) after t
 first-push g n anchors after s t a b new is f =
     record {
@@ -135,7 +136,8 @@ first-push g n anchors after s t a b new is f =
     from k (inl c) = let r = a.only k c in let l = r.1 in (r.0, omega arith, r.2)
     from k (inr j) = (n, omega arith, j)
 
-pub first-end : (g : PlainGraph) (n : ℕ) (anchors : List Anchor) (s : Found) → n ≡ length g.edges → AreFirstBelow g n anchors s → (edges : List ℕ) × (anchors ≡ map Edge edges) × AreThose (IsFirstEdge g) edges
+pub first-end : (g : PlainGraph) (n : ℕ) (anchors : List Anchor) (s : Found) → n ≡ length g.edges → AreFirstBelow g n anchors s
+    → (edges : List ℕ) × (anchors ≡ map Edge edges) × AreThose (IsFirstEdge g) edges
 first-end g n anchors s is t = (t.edges, t.is, those-end (IsFirstEdge g) n t.edges (λ k f. subst (λ n. k < n) (sym is) f.there) t.those)
 
 -- ## bare wires
@@ -159,7 +161,8 @@ bare-push g n anchors after new t bare is =
       those = those-push (IsBare g) n t.wires t.those bare;
     }
 
-pub bare-end : (g : PlainGraph) (n : ℕ) (anchors after : List Anchor) → n ≡ length g.wires → AreBareBelow g n anchors after → (wires : List ℕ) × (after ≡ anchors ++ map Wire wires) × AreThose (IsBare g) wires
+pub bare-end : (g : PlainGraph) (n : ℕ) (anchors after : List Anchor) → n ≡ length g.wires → AreBareBelow g n anchors after
+    → (wires : List ℕ) × (after ≡ anchors ++ map Wire wires) × AreThose (IsBare g) wires
 bare-end g n anchors after is t = (t.wires, t.is, those-end (IsBare g) n t.wires (λ k f. subst (λ n. k < n) (sym is) f.there) t.those)
 
 bare-if : (g : PlainGraph) → IsValid g → (w : ℕ) → w < length g.wires → Contains g.inputs w → Contains g.outputs w → IsBare g w
@@ -192,14 +195,17 @@ bare-match g v w l made used a b m u p q t = go b refl
     go true e = bare-if g v w l (m.0 (none-of made a p t)) (u.0 (none-of used b q e))
     go false e = λ bare. some-of used b q e (u.1 (an-end (length g.wires) g.outputs (sources_of g.edges) v.consumers w l bare.unused))
 
-pub made-match : (g : PlainGraph) → IsValid g → (w : ℕ) → w < length g.wires → (made : Option (ℕ × ℕ)) (a : Bool) → (IsNone made ↔ Contains g.inputs w) → is_some made ≡ not a → a ≡ false → MatchBool a (IsBare g w) (IsBare g w → ⊥)
-made-match g v w l made a m p f = subst (λ a. MatchBool a (IsBare g w) (IsBare g w → ⊥)) (sym f) (λ bare. some-of made a p f (m.1 (an-end (length g.wires) g.inputs (targets_of g.edges) v.producers w l bare.unmade)))
+pub made-match : (g : PlainGraph) → IsValid g → (w : ℕ) → w < length g.wires → (made : Option (ℕ × ℕ)) (a : Bool) → (IsNone made ↔ Contains g.inputs w)
+    → is_some made ≡ not a → a ≡ false → MatchBool a (IsBare g w) (IsBare g w → ⊥)
+made-match g v w l made a m p f =
+    subst (λ a. MatchBool a (IsBare g w) (IsBare g w → ⊥)) (sym f) (λ bare. some-of made a p f (m.1 (an-end (length g.wires) g.inputs (targets_of g.edges) v.producers w l bare.unmade)))
 
 -- ## how many there are
 
 those-few : (P : ℕ → Type 0) (ns : List ℕ) (n : ℕ) → AreThose P ns → ((k : ℕ) → P k → k < n) → length ns ≤ n
 those-few P ns n t few =
-    pigeonhole n ns (λ i j h l e. apart i j h l e (cases_lt i j) (cases_lt j i)) (λ i h. few (slice_index ns i) ((t.members (slice_index ns i)).0 (member-Contains ns (slice_index ns i) (get-member ns i (slice_index ns i) (get-index ns i h)))))
+    pigeonhole n ns (λ i j h l e. apart i j h l e (cases_lt i j) (cases_lt j i))
+    (λ i h. few (slice_index ns i) ((t.members (slice_index ns i)).0 (member-Contains ns (slice_index ns i) (get-member ns i (slice_index ns i) (get-index ns i h)))))
   where
     apart : (i j : ℕ) → i < length ns → j < length ns → slice_index ns i ≡ slice_index ns j → (i < j) ⊎ (j ≤ i) → (j < i) ⊎ (i ≤ j) → i ≡ j
     apart i j h l e (inl a) b = let c = t.increasing i j (slice_index ns i) (slice_index ns j) a (get-index ns i h) (get-index ns j l) in absurd (omega arith)
@@ -210,8 +216,10 @@ pub anchors-few : (g : PlainGraph) (all : List Anchor) → length g.edges < 2147
 anchors-few g anchors m n t =
     let e = those-few (IsFirstEdge g) t.edges (length g.edges) t.first_edges (λ k f. f.there) in
     let w = those-few (IsBare g) t.wires (length g.wires) t.bare_wires (λ k f. f.there) in
-    let a : length anchors ≡ length t.edges + length t.wires = ap length t.is ∙ length-append (map Edge t.edges) (map Wire t.wires) ∙ ap₂ (λ m n. m + n) (length-map t.edges Edge) (length-map t.wires Wire) in
+    let a : length anchors ≡ length t.edges + length t.wires =
+    ap length t.is ∙ length-append (map Edge t.edges) (map Wire t.wires) ∙ ap₂ (λ m n. m + n) (length-map t.edges Edge) (length-map t.wires Wire) in
     omega arith
 
-pub anchors-all : (g : PlainGraph) (first all : List Anchor) → ((edges : List ℕ) × (first ≡ map Edge edges) × AreThose (IsFirstEdge g) edges) → ((wires : List ℕ) × (all ≡ first ++ map Wire wires) × AreThose (IsBare g) wires) → AreAnchors g all
+pub anchors-all : (g : PlainGraph) (first all : List Anchor) → ((edges : List ℕ) × (first ≡ map Edge edges) × AreThose (IsFirstEdge g) edges)
+    → ((wires : List ℕ) × (all ≡ first ++ map Wire wires) × AreThose (IsBare g) wires) → AreAnchors g all
 anchors-all g first all e w = record { edges = e.0; wires = w.0; is = w.1 ∙ ap (λ xs. xs ++ map Wire w.0) e.1; first_edges = e.2; bare_wires = w.2 }

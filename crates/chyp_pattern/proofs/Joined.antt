@@ -146,7 +146,8 @@ all-push g vs w s t u a b =
     back k (inl c) = from k (a.only k c)
     back k (inr h) = inr (h.0, member-Contains _ h.0 (member-right vs (w ∷ []) h.0 (Contains-member (w ∷ []) h.0 h.1)), h.2)
 
-pub all-more : (g : PlainGraph) (wires : List ℕ) (i w : ℕ) (s t u : Found) → slice_get wires i ≡ Some w → AreFoundAt g (take i wires) s t → AreFoundAt g (w ∷ []) t u → AreFoundAt g (take (i + 1) wires) s u
+pub all-more : (g : PlainGraph) (wires : List ℕ) (i w : ℕ) (s t u : Found) → slice_get wires i ≡ Some w → AreFoundAt g (take i wires) s t → AreFoundAt g (w ∷ []) t u
+    → AreFoundAt g (take (i + 1) wires) s u
 all-more g wires i w s t u at a b = subst (λ xs. AreFoundAt g xs s u) (sym (take-suc wires i w at)) (all-push g (take i wires) w s t u a b)
 
 -- the edges that share a wire with an edge are those that have one of its sources or targets
@@ -204,7 +205,8 @@ part-start g k n s t is closed f =
     go j (inl c) = inl c
     go j (inr e) = inr (subst (AreJoined g k) (sym e) same)
 
-pub part-more : (g : PlainGraph) (k n e : ℕ) (s t u : Found) → IsClosed g s.found → slice_get t.found n ≡ Some e → IsComponentPart g k s t n → AreNeighboursFound g e t u → IsComponentPart g k s u (n + 1)
+pub part-more : (g : PlainGraph) (k n e : ℕ) (s t u : Found) → IsClosed g s.found → slice_get t.found n ≡ Some e → IsComponentPart g k s t n
+    → AreNeighboursFound g e t u → IsComponentPart g k s u (n + 1)
 part-more g k n e s t u closed at a f =
     record {
       grows = grows-trans s t u a.grows f.grows;

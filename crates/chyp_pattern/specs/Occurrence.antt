@@ -7,7 +7,8 @@ use Rattle.chyp_graph.specs.PlainGraph.{Edge, PlainGraph, renamed}
 -- a chain of edges of g, all outside the image, leads from an image wire to the edge k: its first edge takes an image
 -- wire, each edge takes a target of the one before it, and the last one is k
 pub data IsReached (g : PlainGraph) (es ws : List ℕ) : ℕ → Type 0 where
-  first : {k : ℕ} {e : Edge} → slice_get g.edges k ≡ Some e → is_apart es k ≡ true → {w : ℕ} → Contains ws w → Contains e.sources w → IsReached g es ws k
+  first : {k : ℕ} {e : Edge} → slice_get g.edges k ≡ Some e → is_apart es k ≡ true
+      → {w : ℕ} → Contains ws w → Contains e.sources w → IsReached g es ws k
   next : {j k : ℕ} {d e : Edge} → IsReached g es ws j → slice_get g.edges j ≡ Some d → slice_get g.edges k ≡ Some e → is_apart es k ≡ true
       → {w : ℕ} → Contains d.targets w → Contains e.sources w → IsReached g es ws k
 
@@ -20,6 +21,7 @@ pub record IsOccurrence (l g : PlainGraph) (es ws : List ℕ) : Type 0 where
   pub wires_apart : (i j : ℕ) → i < length ws → j < length ws → slice_index ws i ≡ slice_index ws j → i ≡ j
   -- sorts are kept, names, and ports by position
   pub sorts : (v : ℕ) → v < length l.wires → slice_get g.wires (slice_index ws v) ≡ slice_get l.wires v
-  pub ports : (k : ℕ) → k < length l.edges → slice_get g.edges (slice_index es k) ≡ option_map (renamed (slice_index ws)) (slice_get l.edges k)
+  pub ports : (k : ℕ) → k < length l.edges → slice_get g.edges (slice_index es k)
+      ≡ option_map (renamed (slice_index ws)) (slice_get l.edges k)
   -- convex: no chain of edges outside the image leads from an image wire to an image wire
   pub convex : (k : ℕ) (e : Edge) (w : ℕ) → IsReached g es ws k → slice_get g.edges k ≡ Some e → Contains e.targets w → is_apart ws w ≡ true

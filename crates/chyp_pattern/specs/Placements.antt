@@ -35,7 +35,8 @@ MayBegin l g (Wire w) j = (sort : Sort) × (slice_get l.wires w ≡ Some sort) �
 
 -- both are edges of one name, or wires of one sort
 abbrev pub BeginAlike : PlainGraph → Anchor → Anchor → Type 0
-BeginAlike l (Edge j) (Edge k) = (d : EdgePart) × (e : EdgePart) × (slice_get l.edges j ≡ Some d) × (slice_get l.edges k ≡ Some e) × (d.name ≡ e.name)
+BeginAlike l (Edge j) (Edge k) =
+    (d : EdgePart) × (e : EdgePart) × (slice_get l.edges j ≡ Some d) × (slice_get l.edges k ≡ Some e) × (d.name ≡ e.name)
 BeginAlike l (Wire v) (Wire w) = slice_get l.wires v ≡ slice_get l.wires w
 BeginAlike l (Edge j) (Wire w) = ⊥
 BeginAlike l (Wire v) (Edge k) = ⊥

@@ -17,7 +17,8 @@ bound_at n ends kept (Some i) = n + slice_index ends i
 -- the wire w of g, anew: the image of the i-th wire of `inner` becomes the i-th of `ends` behind the kept wires, and a
 -- kept wire the number of those before it
 abbrev pub rebound : PlainGraph → List ℕ → List ℕ → List ℕ → ℕ → ℕ
-rebound g ws inner ends w = bound_at (length (kept_wires g ws)) ends (length (filter (is_apart ws) (count_from 0 w))) (place_of w (map (slice_index ws) inner))
+rebound g ws inner ends w =
+    bound_at (length (kept_wires g ws)) ends (length (filter (is_apart ws) (count_from 0 w))) (place_of w (map (slice_index ws) inner))
 
 -- the edges of g that are no image, in order
 abbrev pub kept_edges : PlainGraph → List ℕ → List ℕ

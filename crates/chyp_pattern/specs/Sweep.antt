@@ -9,11 +9,11 @@ pub record Found : Type 0 where
   pub found : List ℕ
 
 -- exactly the edges found are marked, each of them is found once, and there is room for all
-pub record IsKept (seen : List Bool) (found : List ℕ) (room : ℕ) : Type 0 where
-  pub found_if_marked : (k : ℕ) → slice_get seen k ≡ Some true → Contains found k
-  pub marked_if_found : (k : ℕ) → Contains found k → slice_get seen k ≡ Some true
+pub record IsKept (visited : List Bool) (found : List ℕ) (room : ℕ) : Type 0 where
+  pub found_if_marked : (k : ℕ) → slice_get visited k ≡ Some true → Contains found k
+  pub marked_if_found : (k : ℕ) → Contains found k → slice_get visited k ≡ Some true
   pub once : (i j k : ℕ) → slice_get found i ≡ Some k → slice_get found j ≡ Some k → i ≡ j
-  pub enough : length seen ≤ room
+  pub enough : length visited ≤ room
 
 -- from one to the other, edges are found
 pub record Grows (s t : Found) : Type 0 where

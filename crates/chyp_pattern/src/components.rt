@@ -105,7 +105,9 @@ fn find_edge(sweep: &mut Sweep, port: Option<(EdgeId, u32)>)
 /// Adds the wires that are a port of no edge.
 fn push_bare(graph: &Graph, anchors: &mut Vec<Anchor>) -> Result<(), NoMemory>
     requires { IsValid graph.now }
-    ensures { IfOk result (λ _. (wires : List ℕ) × (anchors.new.items ≡ anchors.old.items ++ map Wire wires) × AreThose (IsBare graph.now) wires) }
+    ensures { IfOk result (λ _. (wires : List ℕ)
+        × (anchors.new.items ≡ anchors.old.items ++ map Wire wires)
+        × AreThose (IsBare graph.now) wires) }
 {
     for w in 0..graph.wire_count() {
         if is_bare(graph, WireId(w)) {

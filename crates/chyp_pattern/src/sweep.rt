@@ -11,7 +11,7 @@ use std::marker::Model;
 /// Edges of a graph in the order in which they were found, each once.
 #[derive(Drop)]
 pub(crate) struct Sweep {
-    seen: Vec<bool>,
+    visited: Vec<bool>,
     found: Vec<EdgeId>,
 }
 
@@ -22,9 +22,9 @@ impl Model for Sweep {
 
     ghost Value = { Found };
 
-    ghost view = { λ s. record { edges = length s.seen.items; found = s.found.items } };
+    ghost view = { λ s. record { edges = length s.visited.items; found = s.found.items } };
 
-    ghost invariant = { λ s. IsKept s.seen.items s.found.items (vec_capacity s.found) };
+    ghost invariant = { λ s. IsKept s.visited.items s.found.items (vec_capacity s.found) };
 }
 
 impl Sweep {
@@ -33,7 +33,7 @@ impl Sweep {
         ensures { IfOk result (λ sweep. sweep ≡ record { edges = edges; found = [] }) }
     {
         Ok(Sweep {
-            seen: vec![in alloc; false; edges as usize]?,
+            visited: vec![in alloc; false; edges as usize]?,
             found: Vec::with_capacity(alloc, edges as usize)?,
         })
     }
@@ -60,7 +60,7 @@ impl Sweep {
         requires { k < self.now.edges }
         ensures { MatchBool result (Contains self.now.found k) (Contains self.now.found k → ⊥) }
     {
-        self.seen[k.0 as usize]
+        self.visited[k.0 as usize]
     }
 
     /// Finds the edge, unless it is found already.
@@ -72,6 +72,6 @@ impl Sweep {
             return;
         }
         self.found.push(k).unwrap();
-        self.seen[k.0 as usize] = true;
+        self.visited[k.0 as usize] = true;
     }
 }

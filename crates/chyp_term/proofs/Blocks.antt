@@ -6,7 +6,8 @@ use Rattle.chyp_term.specs.Perm.{IsPermutation, count_from, permuted, shifted}
 use Rattle.chyp_term.specs.Positions.{is_among, is_apart}
 use Rattle.chyp_term.proofs.Closure.{Under-perm, beside_perm, compose_perm}
 use Rattle.chyp_term.proofs.Permuted.{Under, permuted-all, permuted-permuted, permuted-shifted}
-use Rattle.chyp_term.proofs.Members.{Member, Rearr-member, among-member, filter-all, filter-none, member-among, below-member, member-below, member-left, member-not_apart, member-right, not_member-apart}
+use Rattle.chyp_term.proofs.Members.{Member, Rearr-member, among-member, filter-all, filter-none, member-among, below-member, member-below, member-left}
+use Rattle.chyp_term.proofs.Members.{member-not_apart, member-right, not_member-apart}
 use Rattle.chyp_term.proofs.Members.{parts-apart}
 use Rattle.chyp_term.proofs.Rearrangement.{Rearr, Rearr-filter, Rearr-flat, Rearr-length, Rearr-middle, Rearr-permutation, Rearr-right, Rearr-same, Rearr-sym, end, join, permutation-Rearr, skip}
 use Rattle.chyp_term.proofs.Rearrangement.{turn}

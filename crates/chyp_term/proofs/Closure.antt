@@ -1,5 +1,6 @@
 -- Permutations are closed under composition, and under standing side by side.
-use Rattle.std.proofs.Common.{ℕ, zero, suc, ◌+◌, ◌-◌, ◌<◌, ◌≤◌, ◌≡◌, List, [], ◌∷◌, ◌++◌, length, take, get_or, Some, slice_get, slice_index, ◌⊎◌, inl, inr, refl, sym, ◌∙◌, ap, ap₂, subst, arith, length-append}
+use Rattle.std.proofs.Common.{ℕ, zero, suc, ◌+◌, ◌-◌, ◌<◌, ◌≤◌, ◌≡◌, List, [], ◌∷◌, ◌++◌, length, take, get_or, Some, slice_get, slice_index, ◌⊎◌, inl, inr, refl}
+use Rattle.std.proofs.Common.{sym, ◌∙◌, ap, ap₂, subst, arith, length-append}
 use Rattle.std.specs.List.{cons_option}
 use Rattle.std.proofs.lemmas.List.{take_more, length-map, get_or-map, get_or_append_left, get_or-append_right}
 use Rattle.std.proofs.lemmas.Bool.{cases_lt}
@@ -94,7 +95,8 @@ get-item xs k x h e = get_at xs k x h ∙ ap Some (sym e)
     get_at (y ∷ xs) (suc k) d h = get_at xs k d (omega arith)
 
 -- one more place takes one more item
-pub permuted-more : {A : Type 0} (xs : List A) (p : List ℕ) (taken new : List A) (i : ℕ) (x y : A) → i < length p → slice_get xs (slice_index p i) ≡ Some x → y ≡ x → taken ≡ permuted xs (take i p) → new ≡ taken ++ y ∷ [] → new ≡ permuted xs (take (i + 1) p)
+pub permuted-more : {A : Type 0} (xs : List A) (p : List ℕ) (taken new : List A) (i : ℕ) (x y : A) → i < length p → slice_get xs (slice_index p i) ≡ Some x → y ≡ x
+    → taken ≡ permuted xs (take i p) → new ≡ taken ++ y ∷ [] → new ≡ permuted xs (take (i + 1) p)
 permuted-more xs p taken new i x y h g e t n =
     n ∙ ap₂ (λ r z. r ++ z ∷ []) t e
     ∙ sym (ap (permuted xs) (take_more p i 0 h) ∙ permuted-append xs (take i p) (slice_index p i ∷ []) ∙ ap (λ o. permuted xs (take i p) ++ cons_option o []) g)

@@ -1,5 +1,6 @@
 -- Lists of numbers that count on, and the swap of two blocks.
-use Rattle.std.proofs.Common.{ℕ, zero, suc, ◌+◌, ◌-◌, ◌<◌, ◌≤◌, ◌≡◌, List, [], ◌∷◌, ◌++◌, length, slice_index, ◌⊎◌, inl, inr, sym, ◌∙◌, ap, ap₂, subst, arith, length-append, add-zero, zero-add, add-suc, suc-add}
+use Rattle.std.proofs.Common.{ℕ, zero, suc, ◌+◌, ◌-◌, ◌<◌, ◌≤◌, ◌≡◌, List, [], ◌∷◌, ◌++◌, length, slice_index, ◌⊎◌, inl, inr, sym, ◌∙◌, ap, ap₂, subst, arith}
+use Rattle.std.proofs.Common.{length-append, add-zero, zero-add, add-suc, suc-add}
 use Rattle.std.proofs.lemmas.List.{append_assoc, get_or_append_left, get_or-append_right}
 use Rattle.std.proofs.lemmas.Bool.{cases_lt}
 use Rattle.chyp_term.specs.Perm.{IsPermutation, count_from, swapped}
@@ -16,7 +17,8 @@ pub count_from-push : (k n : ℕ) → count_from k (suc n) ≡ count_from k n ++
 count_from-push k zero = ap (λ j. j ∷ []) (sym (add-zero k))
 count_from-push k (suc n) = ap (λ r. k ∷ r) (count_from-push (suc k) n ∙ ap (λ j. count_from (suc k) n ++ j ∷ []) (suc-add k n ∙ sym (add-suc k n)))
 
-pub count_from-more : (old items new : List ℕ) (start place : ℕ) → start ≤ place → items ≡ old ++ count_from start (place - start) → new ≡ items ++ place ∷ [] → new ≡ old ++ count_from start (place + 1 - start)
+pub count_from-more : (old items new : List ℕ) (start place : ℕ) → start ≤ place → items ≡ old ++ count_from start (place - start) → new ≡ items ++ place ∷ []
+    → new ≡ old ++ count_from start (place + 1 - start)
 count_from-more old items new start place h i n =
     let counted : place + 1 - start ≡ suc (place - start) = omega arith in
     let last : start + (place - start) ≡ place = omega arith in
@@ -49,7 +51,8 @@ swapped_perm m n = record {
     apart i j h l (inr a) (inr b) e = let c = rear i h a in let d = rear j l b in omega arith
 
 -- a list that is made of the two blocks is a permutation
-pub blocks_perm : (m n : ℕ) (none second both all : List ℕ) → none ≡ [] → second ≡ none ++ count_from m (m + n - m) → both ≡ second ++ count_from 0 (m - 0) → all ≡ both → IsPermutation (length all) all
+pub blocks_perm : (m n : ℕ) (none second both all : List ℕ) → none ≡ [] → second ≡ none ++ count_from m (m + n - m) → both ≡ second ++ count_from 0 (m - 0)
+    → all ≡ both → IsPermutation (length all) all
 blocks_perm m n none second both all a b c d =
     let second_block : m + n - m ≡ n = omega arith in
     let first_block : m - 0 ≡ m = omega arith in

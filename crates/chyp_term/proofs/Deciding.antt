@@ -67,13 +67,15 @@ some-list P d (suc n) m = whole (heads m (λ x. some-list (λ xs. P (x ∷ xs)) 
         at a b x xs h l u p (inl e) = b xs l u (subst (λ y. P (y ∷ xs)) e p)
         at a b x xs h l u p (inr e) = a x xs (omega arith) l u p
 
-        go : ((xs : List ℕ) × P xs) ⊎ ((x : ℕ) (xs : List ℕ) → x < k → length xs ≡ n → Under m xs → P (x ∷ xs) → ⊥) → ((xs : List ℕ) × P (k ∷ xs)) ⊎ ((xs : List ℕ) → length xs ≡ n → Under m xs → P (k ∷ xs) → ⊥)
+        go : ((xs : List ℕ) × P xs) ⊎ ((x : ℕ) (xs : List ℕ) → x < k → length xs ≡ n → Under m xs → P (x ∷ xs) → ⊥)
+            → ((xs : List ℕ) × P (k ∷ xs)) ⊎ ((xs : List ℕ) → length xs ≡ n → Under m xs → P (k ∷ xs) → ⊥)
             → ((xs : List ℕ) × P xs) ⊎ ((x : ℕ) (xs : List ℕ) → x < suc k → length xs ≡ n → Under m xs → P (x ∷ xs) → ⊥)
         go (inl s) b = inl s
         go (inr a) (inl s) = inl (k ∷ s.0, s.1)
         go (inr a) (inr b) = inr (λ x xs h l u p. at a b x xs h l u p (cases_eq x k))
 
-    whole : ((xs : List ℕ) × P xs) ⊎ ((x : ℕ) (xs : List ℕ) → x < m → length xs ≡ n → Under m xs → P (x ∷ xs) → ⊥) → ((xs : List ℕ) × P xs) ⊎ ((xs : List ℕ) → length xs ≡ suc n → Under m xs → P xs → ⊥)
+    whole : ((xs : List ℕ) × P xs) ⊎ ((x : ℕ) (xs : List ℕ) → x < m → length xs ≡ n → Under m xs → P (x ∷ xs) → ⊥)
+        → ((xs : List ℕ) × P xs) ⊎ ((xs : List ℕ) → length xs ≡ suc n → Under m xs → P xs → ⊥)
     whole (inl s) = inl s
     whole (inr a) = inr none
       where

@@ -1,5 +1,6 @@
 -- Lists of distinct numbers.
-use Rattle.std.proofs.Common.{ℕ, zero, suc, ◌+◌, ◌<◌, ◌≤◌, ◌≡◌, Bool, true, false, cond, eqb, ◌||◌, List, [], ◌∷◌, ◌++◌, length, filter, Option, Some, None, option_map, slice_get, slice_index, ◌⊎◌, inl, inr, refl, sym, ◌∙◌, ap, arith, eq-eqb, ne_eqb}
+use Rattle.std.proofs.Common.{ℕ, zero, suc, ◌+◌, ◌<◌, ◌≤◌, ◌≡◌, Bool, true, false, cond, eqb, ◌||◌, List, [], ◌∷◌, ◌++◌, length, filter, Option, Some, None}
+use Rattle.std.proofs.Common.{option_map, slice_get, slice_index, ◌⊎◌, inl, inr, refl, sym, ◌∙◌, ap, arith, eq-eqb, ne_eqb}
 use Rattle.std.proofs.lemmas.Bool.{cases_Bool}
 use Rattle.std.specs.List.{IsDistinct, AllByRecursion, list_any}
 use Rattle.chyp_term.specs.Perm.{count_from}

@@ -125,7 +125,11 @@ all-apart x (y ∷ xs) h = (ne_eqb x y (λ e. h 0 (omega arith) (sym e)), all-ap
 pub distinct : (xs : List ℕ) → ((i j : ℕ) → i < length xs → j < length xs → slice_index xs i ≡ slice_index xs j → i ≡ j) → IsDistinct eqb xs
 unfolding IsDistinct
 distinct [] h = tt
-distinct (x ∷ xs) h = (all-apart x xs (λ i l e. let q : suc i ≡ 0 = h (suc i) 0 (omega arith) (omega arith) e in omega arith), distinct xs (λ i j a b e. let q : suc i ≡ suc j = h (suc i) (suc j) (omega arith) (omega arith) e in omega arith))
+distinct (x ∷ xs) h = (
+  all-apart x xs (λ i l e. let q : suc i ≡ 0 = h (suc i) 0 (omega arith) (omega arith) e in omega arith),
+  distinct xs
+      (λ i j a b e. let q : suc i ≡ suc j = h (suc i) (suc j) (omega arith) (omega arith) e in omega arith),
+)
 
 pub none-apart : (k : ℕ) (xs : List ℕ) → place_of k xs ≡ None → AllByRecursion (λ y. eqb k y ≡ false) xs
 none-apart k [] e = tt
@@ -170,7 +174,8 @@ abbrev pub or_zero : Option ℕ → ℕ
 or_zero None = 0
 or_zero (Some k) = k
 
-pub permuted-found : {A : Type 0} (xs : List A) (f : ℕ → ℕ) (ys : ℕ → A) (k n : ℕ) → ((i : ℕ) → k ≤ i → i < k + n → slice_get xs (f i) ≡ Some (ys i)) → permuted xs (map f (count_from k n)) ≡ map ys (count_from k n)
+pub permuted-found : {A : Type 0} (xs : List A) (f : ℕ → ℕ) (ys : ℕ → A) (k n : ℕ) → ((i : ℕ) → k ≤ i → i < k + n → slice_get xs (f i) ≡ Some (ys i))
+    → permuted xs (map f (count_from k n)) ≡ map ys (count_from k n)
 permuted-found xs f ys k zero h = refl
 permuted-found xs f ys k (suc n) h = rw (h k (omega arith) (omega arith)) (ap (λ r. ys k ∷ r) (permuted-found xs f ys (suc k) n (λ i a b. h i (omega arith) (omega arith))))
 

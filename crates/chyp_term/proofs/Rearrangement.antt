@@ -181,7 +181,8 @@ pub Rearr-permutation : (n : ℕ) (p : List ℕ) → Rearr (count_from 0 n) p �
 Rearr-permutation n p r = record {
   size = size;
   within = λ i h. Under-index n p (all-under n p (Rearr-all (λ k. k < n) r (under-all n (count_from 0 n) (Under-count_from n 0 n (omega arith))))) i (subst (λ m. i < m) (sym size) h);
-  apart = λ i j h l e. distinct-index p (Rearr-distinct r (subst (IsDistinct eqb) (filter-true 0 n) (distinct-filter (λ _. true) 0 n))) i j (subst (λ m. i < m) (sym size) h) (subst (λ m. j < m) (sym size) l) e;
+  apart = λ i j h l e. distinct-index p (Rearr-distinct r (subst (IsDistinct eqb) (filter-true 0 n) (distinct-filter (λ _. true) 0 n))) i j
+      (subst (λ m. i < m) (sym size) h) (subst (λ m. j < m) (sym size) l) e;
 }
   where
     size : length p ≡ n

@@ -17,10 +17,9 @@ empty = permutation [] []
 abbrev pub swap : List Sort → List Sort → Morphism
 swap a b = permutation (a ++ b) (swapped (length a) (length b))
 
--- The nine monoidal laws, of which the one on the empty diagram has two sides; they hold where both terms are typed. The
--- hexagons, and swap ; swap = id, need no law of their own: every permutation of wires is one primitive term, so the sides
--- of such an equation are permutations that are composed and put beside each other, and perm_then and perm_beside make
--- each of them one permutation.
+-- the nine monoidal laws, of which the one on the empty diagram has two sides; they hold where both terms are typed.
+-- There is none for hexagons, nor for swap ; swap = id: permutations are primitive here, and such laws follow from
+-- `perm_then` and `perm_beside` by computing places.
 pub data IsLaw : Morphism → Morphism → Type 0 where
   -- (a ; b) ; c = a ; (b ; c)
   then_assoc : (a b c : Morphism) → IsLaw (then (then a b) c) (then a (then b c))

@@ -34,7 +34,12 @@ pub generator_arrow : (n : List ℕ) (a b : List Sort) → Arrow (generator n a 
 generator_arrow n a b = record { typed = tt; from = refl; to = refl }
 
 pub swap_arrow : (a b : List Sort) → Arrow (swap a b) (a ++ b) (b ++ a)
-swap_arrow a b = record { typed = subst (λ n. IsPermutation n (swapped (length a) (length b))) (sym (length-append a b)) (to_perm (Undoes-swapped (length a) (length b))); from = refl; to = permuted-swapped a b }
+swap_arrow a b = record {
+  typed = subst (λ n. IsPermutation n (swapped (length a) (length b))) (sym (length-append a b))
+      (to_perm (Undoes-swapped (length a) (length b)));
+  from = refl;
+  to = permuted-swapped a b;
+}
 
 pub length-cod : (a : List Sort) (p : List ℕ) → IsPermutation (length a) p → length (permuted a p) ≡ length a
 length-cod a p t = length-permuted a p (Under-perm _ p t) ∙ t.size
@@ -70,10 +75,12 @@ equal-slide {s} {t} {a} {b} {c} {d} f g =
     (subst (λ x. Equal (then (beside s t) (swap (cod s) (cod t))) (then (swap (dom s) x) (beside t s))) g.from
     (by_law (slide s t) ((f.typed, g.typed), (swap_arrow (cod s) (cod t)).typed, refl) ((swap_arrow (dom s) (dom t)).typed, (g.typed, f.typed), permuted-swapped (dom s) (dom t))))))
 
-pub equal-perms : (a b : List Sort) (p q : List ℕ) → IsPermutation (length a) p → permuted a p ≡ b → IsPermutation (length b) q → Equal (then (permutation a p) (permutation b q)) (permutation a (permuted p q))
+pub equal-perms : (a b : List Sort) (p q : List ℕ) → IsPermutation (length a) p → permuted a p ≡ b → IsPermutation (length b) q
+    → Equal (then (permutation a p) (permutation b q)) (permutation a (permuted p q))
 equal-perms a b p q t e u = by_law (perm_then a b p q) (t, u, e) (compose_perm (length a) p q t (subst (λ n. IsPermutation n q) (sym (ap length e) ∙ length-cod a p t) u))
 
-pub equal-perm_beside : (a b : List Sort) (p q : List ℕ) → IsPermutation (length a) p → IsPermutation (length b) q → Equal (beside (permutation a p) (permutation b q)) (permutation (a ++ b) (p ++ shifted (length a) q))
+pub equal-perm_beside : (a b : List Sort) (p q : List ℕ) → IsPermutation (length a) p → IsPermutation (length b) q
+    → Equal (beside (permutation a p) (permutation b q)) (permutation (a ++ b) (p ++ shifted (length a) q))
 equal-perm_beside a b p q t u = by_law (perm_beside a b p q) (t, u) (subst (λ n. IsPermutation n (p ++ shifted (length a) q)) (sym (length-append a b)) (beside_perm (length a) (length b) p q t u))
 
 pub in_left : {s t u : Morphism} {a b c : List Sort} → Equal s t → Arrow s a b → Arrow u b c → Equal (then s u) (then t u)

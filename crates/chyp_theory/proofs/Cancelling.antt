@@ -1,5 +1,6 @@
 -- An equal first layer can be taken off two terms that are alike.
-use Rattle.std.proofs.Common.{ℕ, zero, suc, ◌+◌, ◌<◌, ◌≤◌, ◌≡◌, List, [], ◌∷◌, ◌++◌, map, length, take, drop, replicate, Option, Some, None, slice_get, inl, inr, refl, sym, ◌∙◌, ap, ap₂, subst, arith, length-append, zero-add, add-zero, length-drop, take-append-drop}
+use Rattle.std.proofs.Common.{ℕ, zero, suc, ◌+◌, ◌<◌, ◌≤◌, ◌≡◌, List, [], ◌∷◌, ◌++◌, map, length, take, drop, replicate, Option, Some, None, slice_get, inl, inr}
+use Rattle.std.proofs.Common.{refl, sym, ◌∙◌, ap, ap₂, subst, arith, length-append, zero-add, add-zero, length-drop, take-append-drop}
 use Rattle.std.proofs.lemmas.List.{length-map, map-append, length-replicate}
 use mathlib.Core.Path.{fun_ext}
 use Rattle.chyp_base.specs.declared.sort.Sort.{Sort}
@@ -59,7 +60,8 @@ module _ {V : Type 0} (a : List Sort) (p n : List ℕ) (b c r : List Sort) (tp :
       permuted-permuted wanted back (subst (λ m. Under m back) (sym wanted-size) undoes.back_under) p
       ∙ ap (permuted wanted) undoes.here ∙ permuted-count wanted (length a) wanted-size
 
-  enters : (mk : EdgeOf (beside (generator n b c) (identity r)) → ℕ → Option V) → ((i : ℕ) → i < length c → mk (inl tt) i ≡ slice_get live i) → run (beside (generator n b c) (identity r)) mk (permuted outside p) ≡ map (λ x. Some x) live
+  enters : (mk : EdgeOf (beside (generator n b c) (identity r)) → ℕ → Option V) → ((i : ℕ) → i < length c → mk (inl tt) i ≡ slice_get live i)
+      → run (beside (generator n b c) (identity r)) mk (permuted outside p) ≡ map (λ x. Some x) live
   unfolding wanted
   enters mk m =
       ap (run (beside (generator n b c) (identity r)) mk) comes-in
@@ -108,11 +110,13 @@ module _ (a : List Sort) (p n : List ℕ) (b c r : List Sort) (s t : Morphism) (
   doms-same = sym ts.1.2 ∙ ty.1.2
 
   -- the first layer of t gives live
-  right-live : {V : Type 0} (mk : EdgeOf t → ℕ → V) (live : List V) (h : length live ≡ length (dom s)) → run (beside (generator n b c) (identity r)) (λ e. mark mk live (inr (inl e))) (permuted (outside a p n b c r ts.0 ts.2 live (live-size live h)) p) ≡ map (λ x. Some x) live
+  right-live : {V : Type 0} (mk : EdgeOf t → ℕ → V) (live : List V) (h : length live ≡ length (dom s))
+      → run (beside (generator n b c) (identity r)) (λ e. mark mk live (inr (inl e))) (permuted (outside a p n b c r ts.0 ts.2 live (live-size live h)) p) ≡ map (λ x. Some x) live
   unfolding mark
   right-live mk live h = enters a p n b c r ts.0 ts.2 live (live-size live h) (λ e. mark mk live (inr (inl e))) (λ i l. refl)
 
-  left-live : {V : Type 0} (mk : EdgeOf t → ℕ → V) (live : List V) (h : length live ≡ length (dom s)) → run (beside (generator n b c) (identity r)) (λ e. mark mk live (k.to (inr (inl e)))) (permuted (outside a p n b c r ts.0 ts.2 live (live-size live h)) p) ≡ map (λ x. Some x) live
+  left-live : {V : Type 0} (mk : EdgeOf t → ℕ → V) (live : List V) (h : length live ≡ length (dom s))
+      → run (beside (generator n b c) (identity r)) (λ e. mark mk live (k.to (inr (inl e)))) (permuted (outside a p n b c r ts.0 ts.2 live (live-size live h)) p) ≡ map (λ x. Some x) live
   unfolding mark
   left-live mk live h = enters a p n b c r ts.0 ts.2 live (live-size live h) (λ e. mark mk live (k.to (inr (inl e)))) (λ i l. ap (λ z. mark mk live z i) at)
 
@@ -147,8 +151,10 @@ module _ (a : List Sort) (p n : List ℕ) (b c r : List Sort) (s t : Morphism) (
     cods = k.cods;
     to = λ e. (into e).0;
     from = λ d. (outof d).0;
-    to_from = λ d. let q : ◌≡◌ {A = EdgeOf (fronted a p n b c r t)} (inr (inr (into (outof d).0).0)) (inr (inr d)) = sym (into (outof d).0).1 ∙ ap k.to (sym (outof d).1) ∙ k.to_from (inr (inr d)) in inner t _ _ q;
-    from_to = λ e. let q : ◌≡◌ {A = EdgeOf (fronted a p n b c r s)} (inr (inr (outof (into e).0).0)) (inr (inr e)) = sym (outof (into e).0).1 ∙ ap k.from (sym (into e).1) ∙ k.from_to (inr (inr e)) in inner s _ _ q;
+    to_from = λ d. let q : ◌≡◌ {A = EdgeOf (fronted a p n b c r t)} (inr (inr (into (outof d).0).0)) (inr (inr d)) = sym (into (outof d).0).1
+        ∙ ap k.to (sym (outof d).1) ∙ k.to_from (inr (inr d)) in inner t _ _ q;
+    from_to = λ e. let q : ◌≡◌ {A = EdgeOf (fronted a p n b c r s)} (inr (inr (outof (into e).0).0)) (inr (inr e)) = sym (outof (into e).0).1
+        ∙ ap k.from (sym (into e).1) ∙ k.from_to (inr (inr e)) in inner s _ _ q;
     labels = λ e. ap (label_of (fronted a p n b c r t)) (sym (into e).1) ∙ k.labels (inr (inr e));
     runs = runs;
     srcs = srcs;

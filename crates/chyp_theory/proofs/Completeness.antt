@@ -25,7 +25,8 @@ pub record SameFront (a : List Sort) (p p2 n : List ℕ) (b c r r2 : List Sort) 
   pub tracked : Tracked (fronted a p2 n b c r2 rest) (fronted a p n b c r term) (inr (inl (inl tt))) (inr (inl (inl tt)))
 
 -- the first permutation is made p
-pub same_front : (a : List Sort) (p p2 n : List ℕ) (b c r r2 : List Sort) (rest : Morphism) → IsPermutation (length a) p → permuted a p ≡ b ++ r → IsTyped (fronted a p2 n b c r2 rest) → take (length b) p2 ≡ take (length b) p → SameFront a p p2 n b c r r2 rest
+pub same_front : (a : List Sort) (p p2 n : List ℕ) (b c r r2 : List Sort) (rest : Morphism) → IsPermutation (length a) p → permuted a p ≡ b ++ r
+    → IsTyped (fronted a p2 n b c r2 rest) → take (length b) p2 ≡ take (length b) p → SameFront a p p2 n b c r r2 rest
 same_front a p p2 n b c r r2 rest tp e t2 f =
     record {
       term = then (beside (identity c) (permutation r d.rest)) rest;
@@ -129,7 +130,8 @@ match a p n b c r s t ts L ty k =
     places : src t (λ e i. Target e i) (ins t) first ≡ map (λ j. In j) (take (length b) p)
     places =
         k.srcs (λ e i. Target e i) (ins t) (length-ins_of t ∙ ap length (sym k.doms)) (inr (inl (inl tt)))
-        ∙ ap (take (length b)) (permuted-map (λ j. In j) (count_from 0 (length (dom t))) p (subst (λ m. Under m p) (ap length k.doms ∙ sym (length-count_from 0 (length (dom t)))) (Under-perm _ p ts.0))
+        ∙ ap (take (length b)) (permuted-map (λ j. In j) (count_from 0 (length (dom t))) p
+        (subst (λ m. Under m p) (ap length k.doms ∙ sym (length-count_from 0 (length (dom t)))) (Under-perm _ p ts.0))
         ∙ ap (map (λ j. In j)) (permuted-numbers (length (dom t)) p (subst (λ m. Under m p) (ap length k.doms) (Under-perm _ p ts.0))))
         ∙ take-map (λ j. In j) (length b) p
 
@@ -168,7 +170,8 @@ complete (step a p n b c r {t = s} L) t ts ty k =
     let h = layers t ty in
     let g = sound h.equal in
     let m = match a p n b c r s h.term ts h.layered g.right (Alike-trans k g.alike) in
-    chain (in_right (in_right (complete L m.term ts.1.1 m.typed m.alike) (arrow_of ts.1.0) (record { typed = ts.1.1; from = sym ts.1.2; to = refl })) (arrow_of ts.0) (record { typed = ts.1; from = sym ts.2; to = refl }))
+    chain (in_right (in_right (complete L m.term ts.1.1 m.typed m.alike) (arrow_of ts.1.0) (record { typed = ts.1.1; from = sym ts.1.2; to = refl })) (arrow_of ts.0)
+    (record { typed = ts.1; from = sym ts.2; to = refl }))
     (chain (back m.equal) (back h.equal))
 
 -- Terms that are alike are equal by the laws.

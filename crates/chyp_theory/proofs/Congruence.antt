@@ -33,7 +33,8 @@ Alike-sym {s} {t} a = record {
   from_to = a.to_from;
   labels = λ e. sym (a.labels (a.from e)) ∙ ap (label_of t) (a.to_from e);
   runs = λ mk live h. sym (a.runs (λ e. mk (a.from e)) live (h ∙ ap length (sym a.doms)) ∙ ap (λ f. run s f live) (fun_ext (λ e. ap mk (a.from_to e))));
-  srcs = λ mk live h e. sym (sym (ap (src t (λ e. mk (a.from e)) live) (a.to_from e)) ∙ a.srcs (λ e. mk (a.from e)) live (h ∙ ap length (sym a.doms)) (a.from e) ∙ ap (λ f. src s f live (a.from e)) (fun_ext (λ e. ap mk (a.from_to e))));
+  srcs = λ mk live h e. sym (sym (ap (src t (λ e. mk (a.from e)) live) (a.to_from e)) ∙ a.srcs (λ e. mk (a.from e)) live (h ∙ ap length (sym a.doms)) (a.from e)
+      ∙ ap (λ f. src s f live (a.from e)) (fun_ext (λ e. ap mk (a.from_to e))));
 }
 
 unfoldable pub Alike-trans : {s t u : Morphism} → Alike s t → Alike t u → Alike s u

@@ -9,7 +9,8 @@ pub decide-permutation : (n : ℕ) (p : List ℕ) → Decided (IsPermutation n p
 decide-permutation n p = decided-by (λ r. record { size = r.0; within = r.1.0; apart = λ i j h l e. r.1.1 i h j l e }) (λ t. (t.size, (t.within, λ i h j l e. t.apart i j h l e)))
     (decide-both (cases_eq (length p) n) (decide-both
     (decide-below (λ i. slice_index p i < n) (λ i. decide-less (slice_index p i) n) n)
-    (decide-below (λ i. (j : ℕ) → j < n → slice_index p i ≡ slice_index p j → i ≡ j) (λ i. decide-below (λ j. slice_index p i ≡ slice_index p j → i ≡ j) (λ j. decide-then (cases_eq (slice_index p i) (slice_index p j)) (cases_eq i j)) n) n)))
+    (decide-below (λ i. (j : ℕ) → j < n → slice_index p i ≡ slice_index p j → i ≡ j)
+    (λ i. decide-below (λ j. slice_index p i ≡ slice_index p j → i ≡ j) (λ j. decide-then (cases_eq (slice_index p i) (slice_index p j)) (cases_eq i j)) n) n)))
 
 pub decide-typed : (t : Morphism) → Decided (IsTyped t)
 decide-typed (generator n a b) = inl tt

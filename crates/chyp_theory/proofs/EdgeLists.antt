@@ -21,12 +21,14 @@ number (then s t) (inr e) = length (edges_of s) + number t e
 number (beside s t) (inl e) = number s e
 number (beside s t) (inr e) = length (edges_of s) + number t e
 
-pub first : (s t : Morphism) (e : EdgeOf s) → slice_get (edges_of s) (number s e) ≡ Some e → ◌≡◌ {A = Option (EdgeOf s ⊎ EdgeOf t)} (slice_get (map (λ e. inl e) (edges_of s) ++ map (λ e. inr e) (edges_of t)) (number s e)) (Some (inl e))
+pub first : (s t : Morphism) (e : EdgeOf s) → slice_get (edges_of s) (number s e) ≡ Some e
+    → ◌≡◌ {A = Option (EdgeOf s ⊎ EdgeOf t)} (slice_get (map (λ e. inl e) (edges_of s) ++ map (λ e. inr e) (edges_of t)) (number s e)) (Some (inl e))
 first s t e h =
     get-append_left (map (λ e. inl e) (edges_of s)) _ _ (subst (λ n. number s e < n) (sym (length-map (edges_of s) (λ e. inl e))) (slice_get-length (edges_of s) _ e h))
     ∙ get-map (λ e. inl e) (edges_of s) (number s e) ∙ ap (option_map (λ e. inl e)) h
 
-pub second : (s t : Morphism) (e : EdgeOf t) → slice_get (edges_of t) (number t e) ≡ Some e → ◌≡◌ {A = Option (EdgeOf s ⊎ EdgeOf t)} (slice_get (map (λ e. inl e) (edges_of s) ++ map (λ e. inr e) (edges_of t)) (length (edges_of s) + number t e)) (Some (inr e))
+pub second : (s t : Morphism) (e : EdgeOf t) → slice_get (edges_of t) (number t e) ≡ Some e
+    → ◌≡◌ {A = Option (EdgeOf s ⊎ EdgeOf t)} (slice_get (map (λ e. inl e) (edges_of s) ++ map (λ e. inr e) (edges_of t)) (length (edges_of s) + number t e)) (Some (inr e))
 second s t e h =
     ap (λ n. slice_get (map (λ e. inl e) (edges_of s) ++ map (λ e. inr e) (edges_of t)) (n + number t e)) (sym (length-map (edges_of s) (λ e. inl e)))
     ∙ get-append_right (map (λ e. inl e) (edges_of s)) (map (λ e. inr e) (edges_of t)) (number t e)
@@ -58,7 +60,9 @@ either-at {A} {B} xs ys k e q = go (cases_lt k (length xs))
     go : (k < length xs) ⊎ (length xs ≤ k) → ((x : A) × (slice_get xs k ≡ Some x) × (inl x ≡ e)) ⊎ ((y : B) × (i : ℕ) × (slice_get ys i ≡ Some y) × (inr y ≡ e) × (k ≡ length xs + i))
     go (inl l) = inl (in_map (λ x. inl x) xs k e (sym (get-append_left (map (λ x. inl x) xs) (map (λ y. inr y) ys) k (subst (λ n. k < n) (sym size) l)) ∙ q))
     go (inr l) =
-        let h = in_map (λ y. inr y) ys (k - length xs) e (sym (get-append_right (map (λ x. inl x) xs) (map (λ y. inr y) ys) (k - length xs)) ∙ ap (slice_get (map (λ x. inl x) xs ++ map (λ y. inr y) ys)) (ap (λ n. n + (k - length xs)) size ∙ omega arith) ∙ q) in
+        let h = in_map (λ y. inr y) ys (k - length xs) e
+        (sym (get-append_right (map (λ x. inl x) xs) (map (λ y. inr y) ys) (k - length xs))
+        ∙ ap (slice_get (map (λ x. inl x) xs ++ map (λ y. inr y) ys)) (ap (λ n. n + (k - length xs)) size ∙ omega arith) ∙ q) in
         inr (h.0, k - length xs, h.1, h.2, omega arith)
 
 pub number_at : (t : Morphism) (k : ℕ) (e : EdgeOf t) → slice_get (edges_of t) k ≡ Some e → number t e ≡ k
@@ -68,12 +72,14 @@ number_at (permutation a p) k e q = absurd e
 number_at (then s t) k e q = go (λ i d. number_at s i d) (λ i d. number_at t i d) (either-at (edges_of s) (edges_of t) k e q)
   where
     go : ((i : ℕ) (d : EdgeOf s) → slice_get (edges_of s) i ≡ Some d → number s d ≡ i) → ((i : ℕ) (d : EdgeOf t) → slice_get (edges_of t) i ≡ Some d → number t d ≡ i)
-        → ((x : EdgeOf s) × (slice_get (edges_of s) k ≡ Some x) × (inl x ≡ e)) ⊎ ((y : EdgeOf t) × (i : ℕ) × (slice_get (edges_of t) i ≡ Some y) × (inr y ≡ e) × (k ≡ length (edges_of s) + i)) → number (then s t) e ≡ k
+        → ((x : EdgeOf s) × (slice_get (edges_of s) k ≡ Some x) × (inl x ≡ e)) ⊎
+        ((y : EdgeOf t) × (i : ℕ) × (slice_get (edges_of t) i ≡ Some y) × (inr y ≡ e) × (k ≡ length (edges_of s) + i)) → number (then s t) e ≡ k
     go f g (inl h) = ap (number (then s t)) (sym h.2) ∙ f k h.0 h.1
     go f g (inr h) = ap (number (then s t)) (sym h.3) ∙ ap (λ n. length (edges_of s) + n) (g h.1 h.0 h.2) ∙ sym h.4
 number_at (beside s t) k e q = go (λ i d. number_at s i d) (λ i d. number_at t i d) (either-at (edges_of s) (edges_of t) k e q)
   where
     go : ((i : ℕ) (d : EdgeOf s) → slice_get (edges_of s) i ≡ Some d → number s d ≡ i) → ((i : ℕ) (d : EdgeOf t) → slice_get (edges_of t) i ≡ Some d → number t d ≡ i)
-        → ((x : EdgeOf s) × (slice_get (edges_of s) k ≡ Some x) × (inl x ≡ e)) ⊎ ((y : EdgeOf t) × (i : ℕ) × (slice_get (edges_of t) i ≡ Some y) × (inr y ≡ e) × (k ≡ length (edges_of s) + i)) → number (beside s t) e ≡ k
+        → ((x : EdgeOf s) × (slice_get (edges_of s) k ≡ Some x) × (inl x ≡ e)) ⊎
+        ((y : EdgeOf t) × (i : ℕ) × (slice_get (edges_of t) i ≡ Some y) × (inr y ≡ e) × (k ≡ length (edges_of s) + i)) → number (beside s t) e ≡ k
     go f g (inl h) = ap (number (beside s t)) (sym h.2) ∙ f k h.0 h.1
     go f g (inr h) = ap (number (beside s t)) (sym h.3) ∙ ap (λ n. length (edges_of s) + n) (g h.1 h.0 h.2) ∙ sym h.4

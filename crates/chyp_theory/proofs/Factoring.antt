@@ -27,11 +27,13 @@ cross {h} {k} {a} {b} {c} {d} f g =
     (back (equal-exchange (id_arrow a) g f (id_arrow d))))
 
 -- a block moves past x
-pub move : {h : Morphism} {b c : List Sort} → Arrow h b c → (x u : List Sort) → Equal (then (beside h (identity (x ++ u))) (beside (swap c x) (identity u))) (then (beside (swap b x) (identity u)) (beside (identity x) (beside h (identity u))))
+pub move : {h : Morphism} {b c : List Sort} → Arrow h b c → (x u : List Sort)
+    → Equal (then (beside h (identity (x ++ u))) (beside (swap c x) (identity u))) (then (beside (swap b x) (identity u)) (beside (identity x) (beside h (identity u))))
 move {h} {b} {c} f x u =
     let i = id_arrow x in
     let j = id_arrow u in
-    chain (in_left (back (chain (equal-beside_assoc f i j) (in_beside (equal-same f) (equal-ids x u)))) (re_to (sym (append_assoc c x u)) (beside_arrow f (id_arrow (x ++ u)))) (beside_arrow (swap_arrow c x) j))
+    chain (in_left (back (chain (equal-beside_assoc f i j) (in_beside (equal-same f) (equal-ids x u))))
+    (re_to (sym (append_assoc c x u)) (beside_arrow f (id_arrow (x ++ u)))) (beside_arrow (swap_arrow c x) j))
     (chain (back (along u (beside_arrow f i) (swap_arrow c x)))
     (chain (in_beside (equal-slide f i) (equal-same j))
     (chain (along u (swap_arrow b x) (beside_arrow i f))
@@ -55,7 +57,8 @@ pub record Factor (c r : List Sort) (p s : List ℕ) : Type 0 where
   pub q_perm : IsPermutation (length r) (s ++ q)
   pub q_cod : permuted r (s ++ q) ≡ permuted r s ++ u
   pub w_perm : IsPermutation (length (c ++ u)) w
-  pub equal : Equal (permutation (c ++ r) p) (then (then (beside (identity c) (permutation r (s ++ q))) (beside (swap c (permuted r s)) (identity u))) (beside (identity (permuted r s)) (permutation (c ++ u) w)))
+  pub equal : Equal (permutation (c ++ r) p) (then (then (beside (identity c) (permutation r (s ++ q))) (beside (swap c (permuted r s)) (identity u)))
+      (beside (identity (permuted r s)) (permutation (c ++ u) w)))
 
 -- the permutation p is l, and then w behind x
 pub record Behind (c r x u : List Sort) (l p : List ℕ) : Type 0 where

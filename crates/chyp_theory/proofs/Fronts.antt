@@ -1,6 +1,7 @@
 -- Permutations by their fronts: distinct places can be brought to the front, what fixes the front permutes the rest, and two
 -- permutations with one front differ by a permutation of the rest.
-use Rattle.std.proofs.Common.{ℕ, zero, suc, ◌+◌, ◌-◌, ◌<◌, ◌≤◌, ◌≡◌, true, not, eqb, List, [], ◌∷◌, ◌++◌, map, length, take, drop, Option, Some, None, slice_index, ◌⊎◌, inl, inr, refl, sym, ◌∙◌, ap, ap₂, subst, arith, take-append-drop, length-drop, get_or-take, get_or-drop}
+use Rattle.std.proofs.Common.{ℕ, zero, suc, ◌+◌, ◌-◌, ◌<◌, ◌≤◌, ◌≡◌, true, not, eqb, List, [], ◌∷◌, ◌++◌, map, length, take, drop, Option, Some, None, slice_index}
+use Rattle.std.proofs.Common.{◌⊎◌, inl, inr, refl, sym, ◌∙◌, ap, ap₂, subst, arith, take-append-drop, length-drop, get_or-take, get_or-drop}
 use Rattle.std.proofs.lemmas.List.{length-map, get_or-map}
 use Rattle.std.proofs.lemmas.Bool.{cases_lt}
 use Rattle.std.specs.List.{IsDistinct, list_any}
@@ -18,7 +19,16 @@ count-index n i h = index-get (count_from 0 n) i i (get-count0 n i h)
 
 -- a permutation that leaves the first m is one of the others
 pub fixes_front : (m n : ℕ) (v : List ℕ) → IsPermutation (m + n) v → take m v ≡ count_from 0 m → (w : List ℕ) × IsPermutation n w × (v ≡ count_from 0 m ++ shifted m w)
-fixes_front m n v t f = (w, record { size = w_size; within = λ i h. rw (w_at i h) (let a = past i h in let b = t.within (m + i) (omega arith) in omega arith); apart = λ i j h l e. w_apart i j h l (sym (w_at i h) ∙ e ∙ w_at j l) }, v_is)
+fixes_front m n v t f = (
+  w,
+  record {
+    size = w_size;
+    within = λ i h. rw (w_at i h)
+        (let a = past i h in let b = t.within (m + i) (omega arith) in omega arith);
+    apart = λ i j h l e. w_apart i j h l (sym (w_at i h) ∙ e ∙ w_at j l);
+  },
+  v_is,
+)
   where
     w : List ℕ
     w = map (λ k. k - m) (drop m v)
@@ -56,7 +66,15 @@ fixes_front m n v t f = (w, record { size = w_size; within = λ i h. rw (w_at i 
 
 -- distinct places, brought to the front
 pub bring : (n : ℕ) (s : List ℕ) → Under n s → IsDistinct eqb s → (q : List ℕ) × IsPermutation n (s ++ q)
-bring n s u d = (q, record { size = size; within = λ i h. Under-index n (s ++ q) below i (subst (λ z. i < z) (sym size) h); apart = λ i j h l e. distinct-index (s ++ q) apart i j (subst (λ z. i < z) (sym size) h) (subst (λ z. j < z) (sym size) l) e })
+bring n s u d = (
+  q,
+  record {
+    size = size;
+    within = λ i h. Under-index n (s ++ q) below i (subst (λ z. i < z) (sym size) h);
+    apart = λ i j h l e. distinct-index
+        (s ++ q) apart i j (subst (λ z. i < z) (sym size) h) (subst (λ z. j < z) (sym size) l) e;
+  },
+)
   where
     q : List ℕ
     q = upto (is_apart s) n

@@ -8,7 +8,8 @@ use Rattle.chyp_term.proofs.Permuted.{permuted-swapped, count_from-0}
 use Rattle.chyp_term.proofs.Positions.{count_from-append}
 use Rattle.chyp_term.proofs.Inverses.{swapped-swapped, id_perm}
 use Rattle.chyp_theory.proofs.Soundness.{sound}
-use Rattle.chyp_theory.proofs.Arrows.{Equal, Arrow, then_arrow, beside_arrow, id_arrow, generator_arrow, swap_arrow, equal-same, equal-assoc, equal-left, equal-right, equal-beside_assoc, equal-beside_right}
+use Rattle.chyp_theory.proofs.Arrows.{Equal, Arrow, then_arrow, beside_arrow, id_arrow, generator_arrow, swap_arrow, equal-same, equal-assoc, equal-left}
+use Rattle.chyp_theory.proofs.Arrows.{equal-right, equal-beside_assoc, equal-beside_right}
 use Rattle.chyp_theory.proofs.Arrows.{equal-exchange, equal-slide, equal-perms, equal-perm_beside, in_left, in_right}
 
 pub data Layered : Morphism → Type 0 where

@@ -5,7 +5,8 @@ use Rattle.chyp_term.specs.Morphism.{Morphism, generator, permutation, then, bes
 use Rattle.chyp_term.specs.Perm.{IsPermutation, count_from}
 use Rattle.chyp_term.proofs.Distinct.{all-append}
 use Rattle.chyp_term.proofs.Members.{Member, Rearr-member, flat-member, get-member, member-flat, member-left, member-split}
-use Rattle.chyp_term.proofs.Rearrangement.{Rearr, join, Rearr-right, Rearr-left, Rearr-same, Rearr-sym, Rearr-comm, Rearr-inner, Rearr-append, permuted-Rearr, flat-append, flat-map, all-count, Rearr-all}
+use Rattle.chyp_term.proofs.Rearrangement.{Rearr, join, Rearr-right, Rearr-left, Rearr-same, Rearr-sym, Rearr-comm, Rearr-inner, Rearr-append, permuted-Rearr}
+use Rattle.chyp_term.proofs.Rearrangement.{flat-append, flat-map, all-count, Rearr-all}
 use Rattle.chyp_term.proofs.Apart.{Apart, Rearr-Apart, all-split, Apart-append, Apart-split, apart-turned, Apart-count, all-flat}
 use Rattle.chyp_term.proofs.SameMembers.{member-all, member-count}
 use Rattle.chyp_theory.proofs.Congruence.{length-run, length-take_dom, length-drop_dom}

@@ -1,5 +1,6 @@
 -- A generator whose sources all come from outside can be brought to the front of the layers.
-use Rattle.std.proofs.Common.{ℕ, zero, suc, ◌+◌, ◌-◌, ◌<◌, ◌≤◌, ◌≡◌, eqb, List, [], ◌∷◌, ◌++◌, map, length, take, drop, slice_index, ◌⊎◌, inl, inr, refl, sym, ◌∙◌, ap, ap₂, subst, arith, length-append, zero-add, add-zero, get_or-take, get_or, length-take}
+use Rattle.std.proofs.Common.{ℕ, zero, suc, ◌+◌, ◌-◌, ◌<◌, ◌≤◌, ◌≡◌, eqb, List, [], ◌∷◌, ◌++◌, map, length, take, drop, slice_index, ◌⊎◌, inl, inr, refl, sym, ◌∙◌}
+use Rattle.std.proofs.Common.{ap, ap₂, subst, arith, length-append, zero-add, add-zero, get_or-take, get_or, length-take}
 use Rattle.std.specs.List.{IsDistinct}
 use Rattle.std.proofs.lemmas.Bool.{cases_lt}
 use Rattle.std.proofs.lemmas.List.{get_or_append_left, get_or_past, length-map, append_cancel_left, get_or-map}
@@ -60,10 +61,14 @@ peel_past {x} {y} a p n b c r t k f p3 s n3 c3 r3 t3 tr front size us =
           (tracked-chain (tracked-right (equal-same P) (tracked-right sp.equal (tracked-same M (inl (inl tt))) (then_arrow G P3) M) P (then_arrow (then_arrow G P3) M))
           (tracked-chain (tracked-right (equal-same P) (tracked-assoc_third Q Y M' (inl (inl tt))) P' (then_arrow (then_arrow Q Y) M'))
           (tracked-chain (tracked-right (equal-same P) (tracked-right (equal-same Q) (tracked-back (tracked-assoc_second Y G3 T3 (inl tt))) Q (then_arrow Y M')) P' (then_arrow Q (then_arrow Y M')))
-          (tracked-chain (tracked-right (equal-same P) (tracked-right (equal-same Q) (tracked-left (tracked-pass g3 XA tt) (equal-same T3) (then_arrow Y G3) T3) Q (then_arrow (then_arrow Y G3) T3)) P' (then_arrow Q (then_arrow (then_arrow Y G3) T3)))
-          (tracked-chain (tracked-right (equal-same P) (tracked-right (equal-same Q) (tracked-assoc_first G4 Y4 T4 (inl tt)) Q (then_arrow (then_arrow G4 Y4) T4)) P' (then_arrow Q (then_arrow (then_arrow G4 Y4) T4)))
+          (tracked-chain (tracked-right (equal-same P)
+          (tracked-right (equal-same Q) (tracked-left (tracked-pass g3 XA tt) (equal-same T3) (then_arrow Y G3) T3) Q (then_arrow (then_arrow Y G3) T3)) P'
+          (then_arrow Q (then_arrow (then_arrow Y G3) T3)))
+          (tracked-chain (tracked-right (equal-same P) (tracked-right (equal-same Q) (tracked-assoc_first G4 Y4 T4 (inl tt)) Q (then_arrow (then_arrow G4 Y4) T4)) P'
+          (then_arrow Q (then_arrow (then_arrow G4 Y4) T4)))
           (tracked-chain (tracked-back (tracked-assoc_third P' Q (then_arrow G4 (then_arrow Y4 T4)) (inl (inl tt))))
-          (tracked-right (equal-perms a (b ++ r) p sp.q f.typed.0 (sym G.from) sp.left_perm) (tracked-same (then_arrow G4 (then_arrow Y4 T4)) (inl (inl tt))) (then_arrow P' Q) (then_arrow G4 (then_arrow Y4 T4))))))))));
+          (tracked-right (equal-perms a (b ++ r) p sp.q f.typed.0 (sym G.from) sp.left_perm) (tracked-same (then_arrow G4 (then_arrow Y4 T4)) (inl (inl tt)))
+          (then_arrow P' Q) (then_arrow G4 (then_arrow Y4 T4))))))))));
     }
   where
     P : Arrow (permutation a p) x (permuted a p)
@@ -173,7 +178,8 @@ module _ {x y : List Sort} (a : List Sort) (p n : List ℕ) (b c r : List Sort) 
   live-size : length live ≡ length (dom t)
   unfolding live
   live-size =
-      length-run (then (permutation a p) (beside (generator n b c) (identity r))) (f.typed.0, f.typed.1.0, f.typed.2) (λ e i. Target (elim e [ inl z ↦ inl z | inr z ↦ inr (inl z) ]) i) (ins (fronted a p n b c r t)) (length-ins_of (fronted a p n b c r t))
+      length-run (then (permutation a p) (beside (generator n b c) (identity r))) (f.typed.0, f.typed.1.0, f.typed.2)
+      (λ e i. Target (elim e [ inl z ↦ inl z | inr z ↦ inr (inl z) ]) i) (ins (fronted a p n b c r t)) (length-ins_of (fronted a p n b c r t))
       ∙ ap length f.typed.1.2
 
   lift-ins : map lift (ins t) ≡ live

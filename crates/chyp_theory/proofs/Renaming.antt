@@ -11,7 +11,8 @@ use Rattle.chyp_theory.proofs.Congruence.{length-run, length-take_dom, length-dr
 -- ## what run does with names
 
 -- names that are changed in what goes in are changed in what comes out
-pub map-run : {V W : Type 0} (f : V → W) (t : Morphism) → IsTyped t → (mk : EdgeOf t → ℕ → V) (live : List V) → length live ≡ length (dom t) → map f (run t mk live) ≡ run t (λ e i. f (mk e i)) (map f live)
+pub map-run : {V W : Type 0} (f : V → W) (t : Morphism) → IsTyped t → (mk : EdgeOf t → ℕ → V) (live : List V) → length live ≡ length (dom t)
+    → map f (run t mk live) ≡ run t (λ e i. f (mk e i)) (map f live)
 map-run f (generator n a b) ty mk live h = map-map f (mk tt) (count_from 0 (length b))
   where
     map-map : {U V W : Type 0} (f : V → W) (g : U → V) (xs : List U) → map f (map g xs) ≡ map (λ x. f (g x)) xs
@@ -28,7 +29,8 @@ map-run f (beside s t) ty mk live h =
     (map-run f t ty.1 (λ e. mk (inr e)) _ (length-drop_dom s t live h) ∙ ap (run t (λ e i. f (mk (inr e) i))) (sym (drop-map f (length (dom s)) live)))
 
 -- and in what goes into a generator
-pub map-src : {V W : Type 0} (f : V → W) (t : Morphism) → IsTyped t → (mk : EdgeOf t → ℕ → V) (live : List V) → length live ≡ length (dom t) → (e : EdgeOf t) → map f (src t mk live e) ≡ src t (λ e i. f (mk e i)) (map f live) e
+pub map-src : {V W : Type 0} (f : V → W) (t : Morphism) → IsTyped t → (mk : EdgeOf t → ℕ → V) (live : List V) → length live ≡ length (dom t) → (e : EdgeOf t)
+    → map f (src t mk live e) ≡ src t (λ e i. f (mk e i)) (map f live) e
 map-src f (generator n a b) ty mk live h e = refl
 map-src f (permutation a p) ty mk live h e = absurd e
 map-src f (then s t) ty mk live h (inl e) = map-src f s ty.0 (λ e. mk (inl e)) live h e
@@ -51,7 +53,8 @@ same-run (permutation a p) mk nk h live = refl
 same-run (then s t) mk nk h live = ap (run t (λ e. mk (inr e))) (same-run s _ _ (λ e. h (inl e)) live) ∙ same-run t _ _ (λ e. h (inr e)) _
 same-run (beside s t) mk nk h live = ap₂ (λ x y. x ++ y) (same-run s _ _ (λ e. h (inl e)) _) (same-run t _ _ (λ e. h (inr e)) _)
 
-pub same-src : {V : Type 0} (t : Morphism) (mk nk : EdgeOf t → ℕ → V) → ((e : EdgeOf t) (i : ℕ) → i < length (label_of t e).cod → mk e i ≡ nk e i) → (live : List V) (e : EdgeOf t) → src t mk live e ≡ src t nk live e
+pub same-src : {V : Type 0} (t : Morphism) (mk nk : EdgeOf t → ℕ → V) → ((e : EdgeOf t) (i : ℕ) → i < length (label_of t e).cod → mk e i ≡ nk e i)
+    → (live : List V) (e : EdgeOf t) → src t mk live e ≡ src t nk live e
 same-src (generator n a b) mk nk h live e = refl
 same-src (permutation a p) mk nk h live e = absurd e
 same-src (then s t) mk nk h live (inl e) = same-src s _ _ (λ e. h (inl e)) live e

@@ -5,13 +5,15 @@ use Rattle.chyp_theory.proofs.Running.{EdgeOf, label_of, run, src, Alike}
 use Rattle.chyp_theory.proofs.Renaming.{map-run, map-src, same-run, same-src, Producer, In, Target}
 use Rattle.chyp_theory.proofs.Cancelling.{map-Some}
 
-pub read-list : {V : Type 0} (f : ℕ → Option V) (xs : List ℕ) (ys : List V) → length xs ≡ length ys → ((i : ℕ) → i < length xs → f (slice_index xs i) ≡ slice_get ys i) → map f xs ≡ map (λ y. Some y) ys
+pub read-list : {V : Type 0} (f : ℕ → Option V) (xs : List ℕ) (ys : List V) → length xs ≡ length ys
+    → ((i : ℕ) → i < length xs → f (slice_index xs i) ≡ slice_get ys i) → map f xs ≡ map (λ y. Some y) ys
 read-list f [] [] q h = refl
 read-list f [] (y ∷ ys) q h = absurd (omega arith)
 read-list f (x ∷ xs) [] q h = absurd (omega arith)
 read-list f (x ∷ xs) (y ∷ ys) q h = ap₂ (λ a b. a ∷ b) (h 0 (omega arith)) (read-list f xs ys (omega arith) (λ i l. h (suc i) (omega arith)))
 
-module _ (s t : Morphism) (ts : IsTyped s) (ty : IsTyped t) (doms : dom s ≡ dom t) (cods : cod s ≡ cod t) (to : EdgeOf s → EdgeOf t) (from : EdgeOf t → EdgeOf s) (to_from : (e : EdgeOf t) → to (from e) ≡ e) (from_to : (e : EdgeOf s) → from (to e) ≡ e)
+module _ (s t : Morphism) (ts : IsTyped s) (ty : IsTyped t) (doms : dom s ≡ dom t) (cods : cod s ≡ cod t) (to : EdgeOf s → EdgeOf t) (from : EdgeOf t → EdgeOf s)
+    (to_from : (e : EdgeOf t) → to (from e) ≡ e) (from_to : (e : EdgeOf s) → from (to e) ≡ e)
     (labels : (e : EdgeOf s) → label_of t (to e) ≡ label_of s e) (mk : EdgeOf t → ℕ → ℕ) (live : List ℕ) (size : length live ≡ length (dom t)) (back : ℕ → Producer (EdgeOf t))
     (back_in : (j : ℕ) → j < length live → back (slice_index live j) ≡ In j) (back_target : (e : EdgeOf t) (i : ℕ) → i < length (label_of t e).cod → back (mk e i) ≡ Target e i)
     (runs : run t mk live ≡ run s (λ e. mk (to e)) live) (srcs : (e : EdgeOf s) → src t mk live (to e) ≡ src s (λ e. mk (to e)) live e) where

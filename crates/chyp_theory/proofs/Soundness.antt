@@ -63,7 +63,13 @@ assoc_beside a b c =
       to_from = elim [ inl e ↦ refl | inr (inl e) ↦ refl | inr (inr e) ↦ refl ];
       from_to = elim [ inl (inl e) ↦ refl | inl (inr e) ↦ refl | inr e ↦ refl ];
       labels = elim [ inl (inl e) ↦ refl | inl (inr e) ↦ refl | inr e ↦ refl ];
-      runs = λ mk live h. rw (e, take-take (length (dom a)) (length (dom a) + length (dom b)) live (omega arith), drop-take (length (dom a)) (length (dom b)) live, ← drop-drop (length (dom b)) (length (dom a)) live) (rw append_assoc refl);
+      runs = λ mk live h. rw (
+        e,
+        take-take (length (dom a)) (length (dom a) + length (dom b)) live (omega arith),
+        drop-take (length (dom a))
+            (length (dom b)) live,
+        ← drop-drop (length (dom b)) (length (dom a)) live,
+      ) (rw append_assoc refl);
       srcs = λ mk live h. elim [
         | inl (inl d) ↦ rw (e, take-take (length (dom a)) (length (dom a) + length (dom b)) live (omega arith)) refl
         | inl (inr d) ↦ rw (e, drop-take (length (dom a)) (length (dom b)) live) refl
@@ -110,7 +116,11 @@ exchange a b c d ta tb m n = record {
   from_to = elim [ inl (inl e) ↦ refl | inl (inr e) ↦ refl | inr (inl e) ↦ refl | inr (inr e) ↦ refl ];
   labels = elim [ inl (inl e) ↦ refl | inl (inr e) ↦ refl | inr (inl e) ↦ refl | inr (inr e) ↦ refl ];
   runs = λ mk live h. let k = length-run a ta (λ e. mk (inl (inl e))) (take (length (dom a)) live) (length-take_dom a b live h) ∙ ap length m in
-      rw (take-left (run a (λ e. mk (inl (inl e))) (take (length (dom a)) live)) (run b (λ e. mk (inr (inl e))) (drop (length (dom a)) live)) (length (dom c)) k, drop-left (run a (λ e. mk (inl (inl e))) (take (length (dom a)) live)) (run b (λ e. mk (inr (inl e))) (drop (length (dom a)) live)) (length (dom c)) k) refl;
+      rw (
+        take-left (run a (λ e. mk (inl (inl e))) (take (length (dom a)) live)) (run b (λ e. mk (inr (inl e))) (drop (length (dom a)) live))
+            (length (dom c)) k,
+        drop-left (run a (λ e. mk (inl (inl e))) (take (length (dom a)) live)) (run b (λ e. mk (inr (inl e))) (drop (length (dom a)) live)) (length (dom c)) k,
+      ) refl;
   srcs = λ mk live h. let k = length-run a ta (λ e. mk (inl (inl e))) (take (length (dom a)) live) (length-take_dom a b live h) ∙ ap length m in elim [
     | inl (inl e) ↦ refl
     | inl (inr e) ↦ refl

@@ -52,7 +52,8 @@ pub tracked-assoc_first : {s t u : Morphism} {a b c d : List Sort} → Arrow s a
 unfolding assoc
 tracked-assoc_first {s} {t} {u} f g h k = record { equal = equal-assoc f g h; alike = assoc s t u; at = refl }
 
-pub tracked-assoc_second : {s t u : Morphism} {a b c d : List Sort} → Arrow s a b → Arrow t b c → Arrow u c d → (k : EdgeOf t) → Tracked (then (then s t) u) (then s (then t u)) (inl (inr k)) (inr (inl k))
+pub tracked-assoc_second : {s t u : Morphism} {a b c d : List Sort} → Arrow s a b → Arrow t b c → Arrow u c d → (k : EdgeOf t)
+    → Tracked (then (then s t) u) (then s (then t u)) (inl (inr k)) (inr (inl k))
 unfolding assoc
 tracked-assoc_second {s} {t} {u} f g h k = record { equal = equal-assoc f g h; alike = assoc s t u; at = refl }
 
@@ -70,16 +71,19 @@ unfolding unit_right
 tracked-unit_right {s} f k = subst (λ x. Tracked (then s (identity x)) s (inl k) k) f.to
     (record { equal = by_law (then_right s) (f.typed, id_perm _, refl) f.typed; alike = unit_right s f.typed; at = refl })
 
-pub tracked-exchange : {s t u v : Morphism} {a b c d e f : List Sort} → Arrow s a b → Arrow t c d → Arrow u b e → Arrow v d f → (k : EdgeOf u) → Tracked (then (beside s t) (beside u v)) (beside (then s u) (then t v)) (inr (inl k)) (inl (inr k))
+pub tracked-exchange : {s t u v : Morphism} {a b c d e f : List Sort} → Arrow s a b → Arrow t c d → Arrow u b e → Arrow v d f → (k : EdgeOf u)
+    → Tracked (then (beside s t) (beside u v)) (beside (then s u) (then t v)) (inr (inl k)) (inl (inr k))
 unfolding exchange
 tracked-exchange {s} {t} {u} {v} f g h k e = record { equal = equal-exchange f g h k; alike = exchange s t u v f.typed g.typed (f.to ∙ sym h.from) (g.to ∙ sym k.from); at = refl }
 
-pub tracked-exchange_first : {s t u v : Morphism} {a b c d e f : List Sort} → Arrow s a b → Arrow t c d → Arrow u b e → Arrow v d f → (k : EdgeOf s) → Tracked (then (beside s t) (beside u v)) (beside (then s u) (then t v)) (inl (inl k)) (inl (inl k))
+pub tracked-exchange_first : {s t u v : Morphism} {a b c d e f : List Sort} → Arrow s a b → Arrow t c d → Arrow u b e → Arrow v d f → (k : EdgeOf s)
+    → Tracked (then (beside s t) (beside u v)) (beside (then s u) (then t v)) (inl (inl k)) (inl (inl k))
 unfolding exchange
 tracked-exchange_first {s} {t} {u} {v} f g h k e = record { equal = equal-exchange f g h k; alike = exchange s t u v f.typed g.typed (f.to ∙ sym h.from) (g.to ∙ sym k.from); at = refl }
 
 -- a generator passes what stands beside it
-pub tracked-pass : {g s : Morphism} {a b c d : List Sort} → Arrow g a b → Arrow s c d → (k : EdgeOf g) → Tracked (then (beside (identity a) s) (beside g (identity d))) (then (beside g (identity c)) (beside (identity b) s)) (inr (inl k)) (inl (inl k))
+pub tracked-pass : {g s : Morphism} {a b c d : List Sort} → Arrow g a b → Arrow s c d → (k : EdgeOf g)
+    → Tracked (then (beside (identity a) s) (beside g (identity d))) (then (beside g (identity c)) (beside (identity b) s)) (inr (inl k)) (inl (inl k))
 tracked-pass {g} {s} {a} {b} {c} {d} f h k =
     tracked-chain (tracked-exchange (id_arrow a) h f (id_arrow d) k)
     (tracked-chain (tracked-beside_left (tracked-unit_left f k) (equal-right h))

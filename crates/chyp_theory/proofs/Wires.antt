@@ -69,12 +69,14 @@ run-wires (then s t) w ty mk live l =
     let h = wired s w.0 ty.0 in
     let under : Under (length live) (wiring_of s) = subst (λ n. Under n (wiring_of s)) (sym l) (Under-perm _ _ h.perm) in
     ap (run t (λ e. mk (inr e))) (run-wires s w.0 ty.0 (λ e. mk (inl e)) live l)
-    ∙ run-wires t w.1 ty.1 (λ e. mk (inr e)) (permuted live (wiring_of s)) (length-permuted live (wiring_of s) under ∙ h.perm.size ∙ sym (length-cod (dom s) (wiring_of s) h.perm) ∙ ap length (h.cods ∙ ty.2))
+    ∙ run-wires t w.1 ty.1 (λ e. mk (inr e)) (permuted live (wiring_of s))
+    (length-permuted live (wiring_of s) under ∙ h.perm.size ∙ sym (length-cod (dom s) (wiring_of s) h.perm) ∙ ap length (h.cods ∙ ty.2))
     ∙ permuted-permuted live (wiring_of s) under (wiring_of t)
 run-wires (beside s t) w ty mk live l =
     let h = wired s w.0 ty.0 in
     let e = length-append (dom s) (dom t) in
-    ap₂ (λ x y. x ++ y) (run-wires s w.0 ty.0 (λ e. mk (inl e)) (take (length (dom s)) live) (length-take_dom s t live l)) (run-wires t w.1 ty.1 (λ e. mk (inr e)) (drop (length (dom s)) live) (length-drop_dom s t live l))
+    ap₂ (λ x y. x ++ y) (run-wires s w.0 ty.0 (λ e. mk (inl e)) (take (length (dom s)) live) (length-take_dom s t live l))
+    (run-wires t w.1 ty.1 (λ e. mk (inr e)) (drop (length (dom s)) live) (length-drop_dom s t live l))
     ∙ sym (permuted-beside live (length (dom s)) (wiring_of s) (wiring_of t) (omega arith) (Under-perm _ _ h.perm))
 
 -- derivable terms of wires are one permutation

@@ -8,7 +8,8 @@ use Rattle.chyp_term.specs.Derivation.{IsEquation, Derives}
 
 -- the wiring of a typed term of wires is a permutation of its domain, and gives its codomain
 abbrev pub WiringsPermute : Type 0
-WiringsPermute = (t : Morphism) → IsWires t → IsTyped t → IsPermutation (length (dom t)) (wiring_of t) × (permuted (dom t) (wiring_of t) ≡ cod t)
+WiringsPermute = (t : Morphism) → IsWires t → IsTyped t
+    → IsPermutation (length (dom t)) (wiring_of t) × (permuted (dom t) (wiring_of t) ≡ cod t)
 
 -- each typed term of wires equals by the monoidal laws the permutation that it is
 abbrev pub WiresArePermutations : Type 0

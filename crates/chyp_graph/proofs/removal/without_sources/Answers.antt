@@ -13,7 +13,8 @@ loop-k-preserved c =
     elim c.if-is_empty.branch [
       | then-is_empty+in_ok-push w ↦
           subst (IsSourceless g (c.loop-k.k + 1)) (sym (ap (λ v. v.items) w.order-is ∙ w.in_ok-push.ensures.items))
-          (sourceless-push g c.loop-k.k c.loop-k.order.items c.loop-k.invariant (source-at g c.loop-k.k 0 e c.edge.ensures ∙ empty-none e.sources c.is_empty.result c.is_empty.ensures w.if-is_empty.true))
+          (sourceless-push g c.loop-k.k c.loop-k.order.items c.loop-k.invariant
+          (source-at g c.loop-k.k 0 e c.edge.ensures ∙ empty-none e.sources c.is_empty.result c.is_empty.ensures w.if-is_empty.true))
       | else-is_empty w ↦
           let f = full-some e.sources c.is_empty.result c.is_empty.ensures w.if-is_empty.false in
           subst (IsSourceless g (c.loop-k.k + 1)) (sym (ap (λ v. v.items) w.order-is))

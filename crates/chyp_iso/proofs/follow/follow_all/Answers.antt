@@ -5,11 +5,13 @@ use Rattle.chyp_iso.proofs.Steps.{when-false, when-true}
 use Rattle.chyp_iso.proofs.follow.follow_all.Goals as goal
 
 pub returns-then-not-follow_pair-clause-leads : goal.returns-then-not-follow_pair-clause-leads
-returns-then-not-follow_pair-clause-leads c = Leads-trans c.args.a.now c.args.b.now _ c.args.pairing.now c.loop-next.pairing c.follow_pair.new.pairing c.loop-next.invariant.leads c.follow_pair.ensures.leads
+returns-then-not-follow_pair-clause-leads c =
+    Leads-trans c.args.a.now c.args.b.now _ c.args.pairing.now c.loop-next.pairing c.follow_pair.new.pairing c.loop-next.invariant.leads c.follow_pair.ensures.leads
 
 pub returns-then-not-follow_pair-clause-outcome : goal.returns-then-not-follow_pair-clause-outcome
 returns-then-not-follow_pair-clause-outcome c =
-    refute-then c.args.a.now c.args.b.now c.args.pairing.now c.loop-next.pairing c.requires.fits.second_valid c.loop-next.invariant.leads (when-false c.follow_pair.result _ _ c.follow_pair.ensures.outcome c.if-not-follow_pair.true)
+    refute-then c.args.a.now c.args.b.now c.args.pairing.now c.loop-next.pairing c.requires.fits.second_valid c.loop-next.invariant.leads
+    (when-false c.follow_pair.result _ _ c.follow_pair.ensures.outcome c.if-not-follow_pair.true)
 
 pub loop-next-preserved : goal.loop-next-preserved
 loop-next-preserved c =

@@ -18,4 +18,5 @@ pub returns-clause-outcome : goal.returns-clause-outcome
 returns-clause-outcome c =
     let first = end-sources c.args.a.now c.requires.fits.first_valid c.args.v c.consumer-first.result c.consumer-first.ensures.port c.consumer-first.ensures.output in
     let second = end-sources c.args.b.now c.requires.fits.second_valid c.args.w c.consumer-second.result c.consumer-second.ensures.port c.consumer-second.ensures.output in
-    up-answer c.args.a.now c.args.b.now c.args.pairing.now c.pair_ports.new.pairing the_sources c.args.v c.args.w _ _ c.pair_ports.result c.requires.fits c.requires.paired first second c.pair_ports.ensures.outcome
+    up-answer c.args.a.now c.args.b.now c.args.pairing.now c.pair_ports.new.pairing the_sources c.args.v c.args.w _ _ c.pair_ports.result c.requires.fits
+    c.requires.paired first second c.pair_ports.ensures.outcome

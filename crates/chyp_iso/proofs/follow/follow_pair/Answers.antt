@@ -17,10 +17,13 @@ pub follow_ports-requires-clause-paired : goal.follow_ports-requires-clause-pair
 follow_ports-requires-clause-paired c = get-has c.args.pairing.now.pairs c.args.at _ (c.pair.ensures ∙ ap (λ x. Some x) c.in-Edges.is)
 
 pub returns-then-follow_producers-clause-leads : goal.returns-then-follow_producers-clause-leads
-returns-then-follow_producers-clause-leads c = Leads-trans c.args.a.now c.args.b.now _ c.args.pairing.now c.follow_producers.new.pairing c.follow_consumers.new.pairing c.follow_producers.ensures.leads c.follow_consumers.ensures.leads
+returns-then-follow_producers-clause-leads c =
+    Leads-trans c.args.a.now c.args.b.now _ c.args.pairing.now c.follow_producers.new.pairing c.follow_consumers.new.pairing c.follow_producers.ensures.leads c.follow_consumers.ensures.leads
 
 pub returns-then-follow_producers-clause-outcome : goal.returns-then-follow_producers-clause-outcome
 returns-then-follow_producers-clause-outcome c =
     at-place c.args.a.now c.args.b.now c.args.pairing.now c.follow_consumers.new.pairing c.args.at c.pair.result _ c.follow_consumers.result c.pair.ensures c.in-Wires.is
-    (ends-answer c.args.a.now c.args.b.now c.args.pairing.now c.follow_producers.new.pairing c.follow_consumers.new.pairing c.in-Wires.v c.in-Wires.w c.follow_consumers.result c.requires.fits.second_valid
-    c.follow_producers.ensures.leads (when-true c.follow_producers.result _ _ c.follow_producers.ensures.outcome c.if-follow_producers.true) c.follow_consumers.ensures.leads c.follow_consumers.ensures.outcome)
+    (ends-answer c.args.a.now c.args.b.now c.args.pairing.now c.follow_producers.new.pairing c.follow_consumers.new.pairing c.in-Wires.v c.in-Wires.w
+    c.follow_consumers.result c.requires.fits.second_valid
+    c.follow_producers.ensures.leads
+    (when-true c.follow_producers.result _ _ c.follow_producers.ensures.outcome c.if-follow_producers.true) c.follow_consumers.ensures.leads c.follow_consumers.ensures.outcome)

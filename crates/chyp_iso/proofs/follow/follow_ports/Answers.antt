@@ -32,23 +32,29 @@ pub returns-then-pair_lists-clause-leads : goal.returns-then-pair_lists-clause-l
 returns-then-pair_lists-clause-leads c =
     let first : Edge = record { name = c.edge-first.result.name.now; sources = c.edge-first.result.sources.now; targets = c.edge-first.result.targets.now } in
     let second : Edge = record { name = c.edge-second.result.name.now; sources = c.edge-second.result.sources.now; targets = c.edge-second.result.targets.now } in
-    ports-leads c.args.a.now c.args.b.now c.args.pairing.now c.pair_lists.new.pairing c.pair_lists-then-pair_lists.new.pairing c.args.e c.args.f first second c.edge-first.ensures c.edge-second.ensures c.requires.paired c.pair_lists.ensures.leads c.pair_lists-then-pair_lists.ensures.leads
+    ports-leads c.args.a.now c.args.b.now c.args.pairing.now c.pair_lists.new.pairing c.pair_lists-then-pair_lists.new.pairing c.args.e c.args.f first second
+    c.edge-first.ensures c.edge-second.ensures c.requires.paired c.pair_lists.ensures.leads c.pair_lists-then-pair_lists.ensures.leads
 
 pub returns-then-pair_lists-clause-outcome : goal.returns-then-pair_lists-clause-outcome
 returns-then-pair_lists-clause-outcome c =
     let first : Edge = record { name = c.edge-first.result.name.now; sources = c.edge-first.result.sources.now; targets = c.edge-first.result.targets.now } in
     let second : Edge = record { name = c.edge-second.result.name.now; sources = c.edge-second.result.sources.now; targets = c.edge-second.result.targets.now } in
-    ports-answer c.args.a.now c.args.b.now c.args.pairing.now c.pair_lists.new.pairing c.pair_lists-then-pair_lists.new.pairing c.args.e c.args.f first second c.pair_lists-then-pair_lists.result c.requires.fits c.edge-first.ensures c.edge-second.ensures c.requires.paired
-    c.pair_lists.ensures.leads (when-true c.pair_lists.result _ _ c.pair_lists.ensures.outcome c.if-pair_lists.true) c.pair_lists-then-pair_lists.ensures.leads c.pair_lists-then-pair_lists.ensures.outcome
+    ports-answer c.args.a.now c.args.b.now c.args.pairing.now c.pair_lists.new.pairing c.pair_lists-then-pair_lists.new.pairing c.args.e c.args.f first second
+    c.pair_lists-then-pair_lists.result c.requires.fits c.edge-first.ensures c.edge-second.ensures c.requires.paired
+    c.pair_lists.ensures.leads
+    (when-true c.pair_lists.result _ _ c.pair_lists.ensures.outcome c.if-pair_lists.true) c.pair_lists-then-pair_lists.ensures.leads c.pair_lists-then-pair_lists.ensures.outcome
 
 pub returns-else-pair_lists-clause-leads : goal.returns-else-pair_lists-clause-leads
 returns-else-pair_lists-clause-leads c =
     let first : Edge = record { name = c.edge-first.result.name.now; sources = c.edge-first.result.sources.now; targets = c.edge-first.result.targets.now } in
     let second : Edge = record { name = c.edge-second.result.name.now; sources = c.edge-second.result.sources.now; targets = c.edge-second.result.targets.now } in
-    down-leads c.args.a.now c.args.b.now c.args.pairing.now c.pair_lists.new.pairing the_sources c.args.e c.args.f first second c.edge-first.ensures c.edge-second.ensures c.requires.paired c.pair_lists.ensures.leads
+    down-leads c.args.a.now c.args.b.now c.args.pairing.now c.pair_lists.new.pairing the_sources c.args.e c.args.f first second c.edge-first.ensures
+    c.edge-second.ensures c.requires.paired c.pair_lists.ensures.leads
 
 pub returns-else-pair_lists-clause-outcome : goal.returns-else-pair_lists-clause-outcome
 returns-else-pair_lists-clause-outcome c =
     let first : Edge = record { name = c.edge-first.result.name.now; sources = c.edge-first.result.sources.now; targets = c.edge-first.result.targets.now } in
     let second : Edge = record { name = c.edge-second.result.name.now; sources = c.edge-second.result.sources.now; targets = c.edge-second.result.targets.now } in
-    rw c.if-pair_lists.false (down-refute c.args.a.now c.args.b.now c.args.pairing.now.pairs the_sources c.args.e c.args.f first second c.requires.fits.second_valid c.edge-first.ensures c.edge-second.ensures c.requires.paired (when-false c.pair_lists.result _ _ c.pair_lists.ensures.outcome c.if-pair_lists.false))
+    rw c.if-pair_lists.false
+    (down-refute c.args.a.now c.args.b.now c.args.pairing.now.pairs the_sources c.args.e c.args.f first second c.requires.fits.second_valid c.edge-first.ensures c.edge-second.ensures c.requires.paired
+    (when-false c.pair_lists.result _ _ c.pair_lists.ensures.outcome c.if-pair_lists.false))

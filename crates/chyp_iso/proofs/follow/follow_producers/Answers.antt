@@ -18,4 +18,5 @@ pub returns-clause-outcome : goal.returns-clause-outcome
 returns-clause-outcome c =
     let first = end-targets c.args.a.now c.requires.fits.first_valid c.args.v c.producer-first.result c.producer-first.ensures.port c.producer-first.ensures.input in
     let second = end-targets c.args.b.now c.requires.fits.second_valid c.args.w c.producer-second.result c.producer-second.ensures.port c.producer-second.ensures.input in
-    up-answer c.args.a.now c.args.b.now c.args.pairing.now c.pair_ports.new.pairing the_targets c.args.v c.args.w _ _ c.pair_ports.result c.requires.fits c.requires.paired first second c.pair_ports.ensures.outcome
+    up-answer c.args.a.now c.args.b.now c.args.pairing.now c.pair_ports.new.pairing the_targets c.args.v c.args.w _ _ c.pair_ports.result c.requires.fits
+    c.requires.paired first second c.pair_ports.ensures.outcome

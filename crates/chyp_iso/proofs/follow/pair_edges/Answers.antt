@@ -12,7 +12,8 @@ returns-in-Some-clause-outcome c =
 
 pub returns-then-is_some-clause-outcome : goal.returns-then-is_some-clause-outcome
 returns-then-is_some-clause-outcome c =
-    taken_edge-answer c.args.a.now c.args.b.now c.args.pairing.now c.requires.fits c.edge.ensures.matching c.args.e c.args.f c.edge_back.result c.requires.there c.edge_back.ensures.image (sym c.is_some.ensures ∙ c.if-is_some.true) (sym c.edge.ensures.image ∙ c.in_default.is)
+    taken_edge-answer c.args.a.now c.args.b.now c.args.pairing.now c.requires.fits c.edge.ensures.matching c.args.e c.args.f c.edge_back.result c.requires.there c.edge_back.ensures.image
+    (sym c.is_some.ensures ∙ c.if-is_some.true) (sym c.edge.ensures.image ∙ c.in_default.is)
 
 pub returns-then-not-alike-clause-outcome : goal.returns-then-not-alike-clause-outcome
 returns-then-not-alike-clause-outcome c =

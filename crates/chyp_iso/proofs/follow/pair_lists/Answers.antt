@@ -10,7 +10,8 @@ returns-then-not-pair_wires-clause-leads c =
     let n = c.requires.same in
     let v = get-item c.args.vs.now c.loop-i.i c.index-vs-i.result t c.index-vs-i.is in
     let w = get-item c.args.ws.now c.loop-i.i c.index-ws-i.result (omega arith) c.index-ws-i.is in
-    lists-step c.args.a.now c.args.b.now c.args.vs.now c.args.ws.now c.args.pairing.now c.loop-i.pairing c.pair_wires.new.pairing c.loop-i.i c.index-vs-i.result c.index-ws-i.result v w c.loop-i.invariant.leads c.pair_wires.ensures.leads
+    lists-step c.args.a.now c.args.b.now c.args.vs.now c.args.ws.now c.args.pairing.now c.loop-i.pairing c.pair_wires.new.pairing c.loop-i.i c.index-vs-i.result
+    c.index-ws-i.result v w c.loop-i.invariant.leads c.pair_wires.ensures.leads
 
 pub returns-then-not-pair_wires-clause-outcome : goal.returns-then-not-pair_wires-clause-outcome
 returns-then-not-pair_wires-clause-outcome c =
@@ -18,7 +19,8 @@ returns-then-not-pair_wires-clause-outcome c =
     let n = c.requires.same in
     let v = get-item c.args.vs.now c.loop-i.i c.index-vs-i.result t c.index-vs-i.is in
     let w = get-item c.args.ws.now c.loop-i.i c.index-ws-i.result (omega arith) c.index-ws-i.is in
-    lists-refute c.args.a.now c.args.b.now c.args.vs.now c.args.ws.now c.args.pairing.now c.loop-i.pairing c.loop-i.i c.index-vs-i.result c.index-ws-i.result c.requires.fits.second_valid v w c.loop-i.invariant.leads
+    lists-refute c.args.a.now c.args.b.now c.args.vs.now c.args.ws.now c.args.pairing.now c.loop-i.pairing c.loop-i.i c.index-vs-i.result c.index-ws-i.result
+    c.requires.fits.second_valid v w c.loop-i.invariant.leads
     (when-false c.pair_wires.result _ _ c.pair_wires.ensures.outcome c.if-not-pair_wires.true)
 
 pub loop-i-preserved : goal.loop-i-preserved
@@ -28,8 +30,12 @@ loop-i-preserved c =
     let v = get-item c.args.vs.now c.loop-i.i c.index-vs-i.result t c.index-vs-i.is in
     let w = get-item c.args.ws.now c.loop-i.i c.index-ws-i.result (omega arith) c.index-ws-i.is in
     record {
-      leads = lists-step c.args.a.now c.args.b.now c.args.vs.now c.args.ws.now c.args.pairing.now c.loop-i.pairing c.pair_wires.new.pairing c.loop-i.i c.index-vs-i.result c.index-ws-i.result v w c.loop-i.invariant.leads c.pair_wires.ensures.leads;
-      paired = lists-paired c.args.a.now c.args.b.now c.args.vs.now c.args.ws.now c.loop-i.pairing c.pair_wires.new.pairing _ c.loop-i.i c.index-vs-i.result c.index-ws-i.result v w c.pair_wires.ensures.leads c.loop-i.invariant.paired
+      leads =
+          lists-step c.args.a.now c.args.b.now c.args.vs.now c.args.ws.now c.args.pairing.now c.loop-i.pairing c.pair_wires.new.pairing c.loop-i.i
+          c.index-vs-i.result c.index-ws-i.result v w c.loop-i.invariant.leads c.pair_wires.ensures.leads;
+      paired =
+          lists-paired c.args.a.now c.args.b.now c.args.vs.now c.args.ws.now c.loop-i.pairing c.pair_wires.new.pairing _ c.loop-i.i c.index-vs-i.result
+          c.index-ws-i.result v w c.pair_wires.ensures.leads c.loop-i.invariant.paired
           (when-true c.pair_wires.result _ _ c.pair_wires.ensures.outcome c.if-not-pair_wires.false);
     }
 

@@ -12,7 +12,8 @@ returns-in-Some-clause-outcome c =
 
 pub returns-then-is_some-clause-outcome : goal.returns-then-is_some-clause-outcome
 returns-then-is_some-clause-outcome c =
-    taken_wire-answer c.args.a.now c.args.b.now c.args.pairing.now c.requires.fits c.wire.ensures.matching c.args.v c.args.w c.wire_back.result c.requires.there c.wire_back.ensures.image (sym c.is_some.ensures ∙ c.if-is_some.true) (sym c.wire.ensures.image ∙ c.in_default.is)
+    taken_wire-answer c.args.a.now c.args.b.now c.args.pairing.now c.requires.fits c.wire.ensures.matching c.args.v c.args.w c.wire_back.result c.requires.there c.wire_back.ensures.image
+    (sym c.is_some.ensures ∙ c.if-is_some.true) (sym c.wire.ensures.image ∙ c.in_default.is)
 
 pub returns-then-not-same_sort-clause-outcome : goal.returns-then-not-same_sort-clause-outcome
 returns-then-not-same_sort-clause-outcome c =

@@ -8,8 +8,11 @@ pub loop-k-preserved : goal.loop-k-preserved
 loop-k-preserved c =
     let P = IsNamed c.args.graph.now c.args.name.now in
     elim c.if-eq.branch [
-      | then-eq w ↦ subst (IsCountBelow P (c.loop-k.k + 1)) (sym w.count-is) (count-push P c.loop-k.k c.loop-k.count c.loop-k.invariant (record { edge = _; is = c.edge.ensures; named = w.if-eq.ensures.same.0 refl }))
-      | else-eq w ↦ subst (IsCountBelow P (c.loop-k.k + 1)) (sym w.count-is) (count-skip P c.loop-k.k c.loop-k.count c.loop-k.invariant (λ p. absurd (true≢false (sym (w.if-eq.ensures.same.1 (named-one c.args.graph.now c.args.name.now c.loop-k.k _ c.edge.ensures p))))))
+      | then-eq w ↦ subst (IsCountBelow P (c.loop-k.k + 1)) (sym w.count-is)
+          (count-push P c.loop-k.k c.loop-k.count c.loop-k.invariant (record { edge = _; is = c.edge.ensures; named = w.if-eq.ensures.same.0 refl }))
+      | else-eq w ↦ subst (IsCountBelow P (c.loop-k.k + 1)) (sym w.count-is)
+          (count-skip P c.loop-k.k c.loop-k.count c.loop-k.invariant (λ p. absurd (true≢false
+          (sym (w.if-eq.ensures.same.1 (named-one c.args.graph.now c.args.name.now c.loop-k.k _ c.edge.ensures p))))))
     ]
 
 pub returns : goal.returns

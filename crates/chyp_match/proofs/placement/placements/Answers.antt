@@ -10,7 +10,9 @@ loop-k-preserved c =
     let there : k < length l.anchors = subst (λ n. k < n) c.component_count-k-end.ensures c.loop-k-test.true in
     let a = found l.anchors k there in
     record {
-      product = product-more l c.args.graph.now k c.loop-k.product c.choices_at-count.result c.saturating_mul-product.result a.0 a.1 c.loop-k.invariant.product (c.choices_at-count.ensures k a.0 refl a.1) c.saturating_mul-product.ensures;
+      product =
+          product-more l c.args.graph.now k c.loop-k.product c.choices_at-count.result c.saturating_mul-product.result a.0 a.1 c.loop-k.invariant.product
+          (c.choices_at-count.ensures k a.0 refl a.1) c.saturating_mul-product.ensures;
       known = c.choices_at-count.ensures;
     }
 

@@ -8,8 +8,11 @@ pub loop-w-preserved : goal.loop-w-preserved
 loop-w-preserved c =
     let P = IsOfSort c.args.graph.now c.args.sort.now in
     elim c.if-eq.branch [
-      | then-eq x ↦ subst (IsCountBelow P (c.loop-w.w + 1)) (sym x.count-is) (count-push P c.loop-w.w c.loop-w.count c.loop-w.invariant (c.wire_sort.ensures ∙ ap (λ s. Some s) (x.if-eq.ensures.same.0 refl)))
-      | else-eq x ↦ subst (IsCountBelow P (c.loop-w.w + 1)) (sym x.count-is) (count-skip P c.loop-w.w c.loop-w.count c.loop-w.invariant (λ p. absurd (true≢false (sym (x.if-eq.ensures.same.1 (sort-one c.args.graph.now c.wire_sort.result.now c.args.sort.now c.loop-w.w c.wire_sort.ensures p))))))
+      | then-eq x ↦ subst (IsCountBelow P (c.loop-w.w + 1)) (sym x.count-is)
+          (count-push P c.loop-w.w c.loop-w.count c.loop-w.invariant (c.wire_sort.ensures ∙ ap (λ s. Some s) (x.if-eq.ensures.same.0 refl)))
+      | else-eq x ↦ subst (IsCountBelow P (c.loop-w.w + 1)) (sym x.count-is)
+          (count-skip P c.loop-w.w c.loop-w.count c.loop-w.invariant
+          (λ p. absurd (true≢false (sym (x.if-eq.ensures.same.1 (sort-one c.args.graph.now c.wire_sort.result.now c.args.sort.now c.loop-w.w c.wire_sort.ensures p))))))
     ]
 
 pub returns : goal.returns

@@ -7,5 +7,6 @@ returns-clause-anchors c = anchors-all c.args.graph.now c.in_ok-anchors.anchors.
 
 pub returns-clause-few : goal.returns-clause-few
 returns-clause-few c =
-    let all : AreAnchors c.args.graph.now c.push_bare.new.anchors.items = anchors-all c.args.graph.now c.in_ok-anchors.anchors.items c.push_bare.new.anchors.items c.in_ok-anchors.ensures c.in_ok-push_bare.ensures in
+    let all : AreAnchors c.args.graph.now c.push_bare.new.anchors.items =
+    anchors-all c.args.graph.now c.in_ok-anchors.anchors.items c.push_bare.new.anchors.items c.in_ok-anchors.ensures c.in_ok-push_bare.ensures in
     anchors-few c.args.graph.now c.push_bare.new.anchors.items c.valid.ensures.few_edges c.valid.ensures.few_wires all

@@ -12,7 +12,9 @@ pub find_neighbours-requires-clause-there : goal.find_neighbours-requires-clause
 find_neighbours-requires-clause-there c = subst (λ n. c.edge-edge.result < n) (c.loop-next.invariant.grows.edges ∙ c.requires.room) c.edge-edge.ensures.within
 
 pub loop-next-preserved : goal.loop-next-preserved
-loop-next-preserved c = part-more c.args.graph.now c.args.k c.loop-next.next c.edge-edge.result c.args.sweep.now c.loop-next.sweep c.find_neighbours.new.sweep c.requires.closed c.edge-edge.ensures.edge c.loop-next.invariant c.find_neighbours.ensures
+loop-next-preserved c =
+    part-more c.args.graph.now c.args.k c.loop-next.next c.edge-edge.result c.args.sweep.now c.loop-next.sweep c.find_neighbours.new.sweep c.requires.closed
+    c.edge-edge.ensures.edge c.loop-next.invariant c.find_neighbours.ensures
 
 pub returns : goal.returns
 returns c =

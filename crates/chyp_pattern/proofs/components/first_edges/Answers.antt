@@ -13,7 +13,8 @@ loop-k-preserved c =
     elim c.if-not-has.branch [
       | then-not-has+in_ok-push w ↦
           subst (λ s. AreFirstBelow g (k + 1) c.if-not-has.anchors.items s) (sym w.sweep-is) (subst (λ (list : _). AreFirstBelow g (k + 1) list.items w.find_component.new.sweep) (sym w.anchors-is)
-          (first-push g k c.loop-k.anchors.items w.push.new.self.items c.loop-k.sweep w.find_component.new.sweep c.loop-k.invariant (subst (λ n. k < n) c.edge_count-k-end.ensures.count c.loop-k-test.true) w.if-not-has.ensures w.in_ok-push.ensures.items w.find_component.ensures))
+          (first-push g k c.loop-k.anchors.items w.push.new.self.items c.loop-k.sweep w.find_component.new.sweep c.loop-k.invariant
+          (subst (λ n. k < n) c.edge_count-k-end.ensures.count c.loop-k-test.true) w.if-not-has.ensures w.in_ok-push.ensures.items w.find_component.ensures))
       | else-not-has w ↦
           subst (λ s. AreFirstBelow g (k + 1) c.if-not-has.anchors.items s) (sym w.sweep-is) (subst (λ (list : _). AreFirstBelow g (k + 1) list.items c.loop-k.sweep) (sym w.anchors-is)
           (first-skip g k c.loop-k.anchors.items c.loop-k.sweep c.loop-k.invariant w.if-not-has.ensures))

@@ -13,7 +13,8 @@ loop-w-preserved c =
     let old = c.args.anchors.now.items in
     elim c.if-is_bare.branch [
       | then-is_bare+in_ok-push x ↦
-          subst (λ (list : _). AreBareBelow g (w + 1) old list.items) (sym x.anchors-is) (bare-push g w old c.loop-w.anchors.items x.push.new.self.items c.loop-w.invariant x.if-is_bare.ensures x.in_ok-push.ensures.items)
+          subst (λ (list : _). AreBareBelow g (w + 1) old list.items) (sym x.anchors-is)
+          (bare-push g w old c.loop-w.anchors.items x.push.new.self.items c.loop-w.invariant x.if-is_bare.ensures x.in_ok-push.ensures.items)
       | else-is_bare x ↦ subst (λ (list : _). AreBareBelow g (w + 1) old list.items) (sym x.anchors-is) (bare-skip g w old c.loop-w.anchors.items c.loop-w.invariant x.if-is_bare.ensures)
     ]
 

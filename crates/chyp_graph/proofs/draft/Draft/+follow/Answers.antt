@@ -21,7 +21,8 @@ follow-requires-in-Seq t c =
     let old : PlainGraph = drawn c.args.self.now in
     let room : length c.args.self.now.wires.items + size_of (then s u) < 2147483648 = subst (λ x. length c.args.self.now.wires.items + size_of x < 2147483648) m c.requires.room in
     let first : drawn c.follow.new.self ≡ followed (record old { outputs = [] }) (part c.args.live.now c.args.at s) (graph_of s) =
-    c.in_ok-end-in-Seq.ensures.drawn ∙ ap₂ (λ o x. followed (record old { outputs = o }) (part c.args.live.now c.args.at x) (graph_of x)) (ap (λ v. v.items) c.replace-before.ensures.after ∙ c.new.ensures.items) (ap morphism_of c.deref.ensures) in
+    c.in_ok-end-in-Seq.ensures.drawn ∙ ap₂ (λ o x. followed (record old { outputs = o }) (part c.args.live.now c.args.at x) (graph_of x))
+    (ap (λ v. v.items) c.replace-before.ensures.after ∙ c.new.ensures.items) (ap morphism_of c.deref.ensures) in
     let r = follow_seq-room old (drawn c.follow.new.self) c.args.live.now c.args.at s u ty first room in
     let d : morphism_of c.deref-in-Seq.result.now ≡ u = ap morphism_of c.deref-in-Seq.ensures in
     let live : c.deref-in-Seq-2.result.now ≡ c.follow.new.self.outputs.items = c.deref-in-Seq-2.ensures.value ∙ ap (λ v. v.items) c.replace-middle.ensures.value in
@@ -69,7 +70,8 @@ returns-in_ok-add_edge-in-Gen-clause-drawn t c =
     let old : PlainGraph = drawn c.args.self.now in
     let live : c.args.at + length a ≤ length c.args.live.now = subst (λ x. c.args.at + length (dom x) ≤ length c.args.live.now) m c.requires.live in
     let size : c.args.at + length c.as_slice.result.now - c.args.at ≡ length a = ap (λ l. c.args.at + length l - c.args.at) c.as_slice.ensures ∙ omega arith in
-    let sources : c.in_ok-sources-in-Gen.sources.items ≡ take (length a) (drop c.args.at c.args.live.now) = c.in_ok-sources-in-Gen.ensures.items ∙ ap (λ k. take k (drop c.args.at c.args.live.now)) size in
+    let sources : c.in_ok-sources-in-Gen.sources.items ≡ take (length a) (drop c.args.at c.args.live.now) =
+    c.in_ok-sources-in-Gen.ensures.items ∙ ap (λ k. take k (drop c.args.at c.args.live.now)) size in
     let plain : List ℕ → List Sort → PlainGraph = λ l ts. record {
       wires = c.args.self.now.wires.items ++ ts;
       edges = c.args.self.now.edges.items ++ record { name = n; sources = l; targets = count_from (length c.args.self.now.wires.items) (length ts) } ∷ [];
@@ -104,12 +106,14 @@ returns-in_ok-follow-in-Seq-clause-drawn t c =
     let old : PlainGraph = drawn c.args.self.now in
     let mid : PlainGraph = drawn c.follow.new.self in
     let first : drawn c.follow.new.self ≡ followed (record old { outputs = [] }) (part c.args.live.now c.args.at s) (graph_of s) =
-    c.in_ok-end-in-Seq.ensures.drawn ∙ ap₂ (λ o x. followed (record old { outputs = o }) (part c.args.live.now c.args.at x) (graph_of x)) (ap (λ v. v.items) c.replace-before.ensures.after ∙ c.new.ensures.items) (ap morphism_of c.deref.ensures) in
+    c.in_ok-end-in-Seq.ensures.drawn ∙ ap₂ (λ o x. followed (record old { outputs = o }) (part c.args.live.now c.args.at x) (graph_of x))
+    (ap (λ v. v.items) c.replace-before.ensures.after ∙ c.new.ensures.items) (ap morphism_of c.deref.ensures) in
     let d : morphism_of c.deref-in-Seq.result.now ≡ u = ap morphism_of c.deref-in-Seq.ensures in
     let live : c.deref-in-Seq-2.result.now ≡ c.follow.new.self.outputs.items = c.deref-in-Seq-2.ensures.value ∙ ap (λ v. v.items) c.replace-middle.ensures.value in
     let outs : c.replace-middle.new.dest.items ≡ c.args.self.now.outputs.items = ap (λ v. v.items) (c.replace-middle.ensures.after ∙ c.replace-before.ensures.value) in
     let second : drawn c.follow-in-Seq.new.self ≡ followed (record mid { outputs = old.outputs }) (part mid.outputs 0 u) (graph_of u) =
-    c.in_ok-follow-in-Seq.ensures.drawn ∙ ap₂ (λ o l. followed (record mid { outputs = o }) (part l 0 (morphism_of c.deref-in-Seq.result.now)) (graph_of (morphism_of c.deref-in-Seq.result.now))) outs live
+    c.in_ok-follow-in-Seq.ensures.drawn ∙ ap₂ (λ o l. followed (record mid { outputs = o }) (part l 0 (morphism_of c.deref-in-Seq.result.now))
+    (graph_of (morphism_of c.deref-in-Seq.result.now))) outs live
     ∙ ap (λ x. followed (record mid { outputs = old.outputs }) (part mid.outputs 0 x) (graph_of x)) d in
     subst (λ x. drawn c.follow-in-Seq.new.self ≡ followed old (part c.args.live.now c.args.at x) (graph_of x)) (sym m)
     (follow_seq old mid (drawn c.follow-in-Seq.new.self) c.args.live.now c.args.at s u ty first second)

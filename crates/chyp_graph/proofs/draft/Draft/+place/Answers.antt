@@ -21,7 +21,8 @@ push_at-requires t c j h =
     let m : morphism_of c.args.term.now ≡ permutation a p = ap morphism_of c.in-Perm.is in
     let ty : IsPermutation (length a) p = subst IsTyped m c.requires.typed in
     let size : length c.deref-in-Perm-2.result.now ≡ length a =
-    ap length (c.deref-in-Perm-2.ensures.value ∙ c.in_ok-wires-in-Perm.ensures.numbers) ∙ length-count_from (length c.args.self.now.wires.items) (length c.as_slice-in-Perm.result.now) ∙ ap length c.as_slice-in-Perm.ensures in
+    ap length (c.deref-in-Perm-2.ensures.value ∙ c.in_ok-wires-in-Perm.ensures.numbers)
+    ∙ length-count_from (length c.args.self.now.wires.items) (length c.as_slice-in-Perm.result.now) ∙ ap length c.as_slice-in-Perm.ensures in
     let within : slice_index p j < length a = ty.within j (subst (λ n. j < n) ty.size (subst (λ l. j < length l) c.places.ensures.value h)) in
     subst (λ n. slice_index c.places.result.now j < n) (sym size) (subst (λ l. slice_index l j < length a) (sym c.places.ensures.value) within)
 
@@ -34,7 +35,8 @@ follow-requires-clause-room t c =
     let old : PlainGraph = drawn c.args.self.now in
     let room : length c.args.self.now.wires.items + size_of (then s u) < 2147483648 = subst (λ x. length c.args.self.now.wires.items + size_of x < 2147483648) m c.requires.room in
     let first : drawn c.place.new.self ≡ beside_graph (record old { outputs = [] }) (graph_of s) =
-    c.in_ok-place-in-Seq.ensures ∙ ap₂ (λ o x. beside_graph (record old { outputs = o }) (graph_of x)) (ap (λ v. v.items) c.replace-before.ensures.after ∙ c.new.ensures.items) (ap morphism_of c.deref-in-Seq.ensures) in
+    c.in_ok-place-in-Seq.ensures ∙ ap₂ (λ o x. beside_graph (record old { outputs = o }) (graph_of x))
+    (ap (λ v. v.items) c.replace-before.ensures.after ∙ c.new.ensures.items) (ap morphism_of c.deref-in-Seq.ensures) in
     subst (λ x. length c.place.new.self.wires.items + size_of x < 2147483648) (sym (ap morphism_of c.deref-in-Seq-2.ensures))
     (place_seq-room old (drawn c.place.new.self) s u ty first room).0
 
@@ -47,7 +49,8 @@ follow-requires-clause-live t c =
     let old : PlainGraph = drawn c.args.self.now in
     let room : length c.args.self.now.wires.items + size_of (then s u) < 2147483648 = subst (λ x. length c.args.self.now.wires.items + size_of x < 2147483648) m c.requires.room in
     let first : drawn c.place.new.self ≡ beside_graph (record old { outputs = [] }) (graph_of s) =
-    c.in_ok-place-in-Seq.ensures ∙ ap₂ (λ o x. beside_graph (record old { outputs = o }) (graph_of x)) (ap (λ v. v.items) c.replace-before.ensures.after ∙ c.new.ensures.items) (ap morphism_of c.deref-in-Seq.ensures) in
+    c.in_ok-place-in-Seq.ensures ∙ ap₂ (λ o x. beside_graph (record old { outputs = o }) (graph_of x))
+    (ap (λ v. v.items) c.replace-before.ensures.after ∙ c.new.ensures.items) (ap morphism_of c.deref-in-Seq.ensures) in
     let live : c.deref-in-Seq-3.result.now ≡ c.place.new.self.outputs.items = c.deref-in-Seq-3.ensures.value ∙ ap (λ v. v.items) c.replace-middle.ensures.value in
     subst (λ l. 0 + length (dom (morphism_of c.deref-in-Seq-2.result.now)) ≤ length l) (sym live)
     (subst (λ x. 0 + length (dom x) ≤ length c.place.new.self.outputs.items) (sym (ap morphism_of c.deref-in-Seq-2.ensures))
@@ -77,8 +80,10 @@ returns-in_ok-extend_from_slice-in-Gen t c =
     let old : PlainGraph = drawn c.args.self.now in
     let m : morphism_of c.args.term.now ≡ generator n a b = ap morphism_of c.in-Gen.is in
     let wires : c.add_wires.new.wires.items ≡ old.wires ++ a = c.in_ok-sources-in-Gen.ensures.wires ∙ ap (λ l. old.wires ++ l) c.as_slice.ensures in
-    let sources : c.in_ok-sources-in-Gen.sources.items ≡ count_from (length old.wires) (length a) = c.in_ok-sources-in-Gen.ensures.numbers ∙ ap (λ l. count_from (length old.wires) (length l)) c.as_slice.ensures in
-    let inputs : c.extend_from_slice.new.self.items ≡ old.inputs ++ count_from (length old.wires) (length a) = c.in_ok-extend_from_slice-in-Gen.ensures.items ∙ ap (λ l. old.inputs ++ l) (c.deref.ensures.value ∙ sources) in
+    let sources : c.in_ok-sources-in-Gen.sources.items ≡ count_from (length old.wires) (length a) =
+    c.in_ok-sources-in-Gen.ensures.numbers ∙ ap (λ l. count_from (length old.wires) (length l)) c.as_slice.ensures in
+    let inputs : c.extend_from_slice.new.self.items ≡ old.inputs ++ count_from (length old.wires) (length a) =
+    c.in_ok-extend_from_slice-in-Gen.ensures.items ∙ ap (λ l. old.inputs ++ l) (c.deref.ensures.value ∙ sources) in
     let plain : List Sort → List ℕ → List ℕ → List Sort → PlainGraph = λ w l i ts. record {
       wires = w ++ ts;
       edges = old.edges ++ record { name = n; sources = l; targets = count_from (length w) (length ts) } ∷ [];
@@ -100,10 +105,13 @@ returns-in_ok-extend_from_slice-in-Perm t c =
     let ty : IsPermutation (length a) p = subst IsTyped m c.requires.typed in
     let old : PlainGraph = drawn c.args.self.now in
     let wires : c.add_wires-in-Perm.new.wires.items ≡ old.wires ++ a = c.in_ok-wires-in-Perm.ensures.wires ∙ ap (λ l. old.wires ++ l) c.as_slice-in-Perm.ensures in
-    let numbers : c.in_ok-wires-in-Perm.wires.items ≡ count_from (length old.wires) (length a) = c.in_ok-wires-in-Perm.ensures.numbers ∙ ap (λ l. count_from (length old.wires) (length l)) c.as_slice-in-Perm.ensures in
-    let inputs : c.extend_from_slice-in-Perm.new.self.items ≡ old.inputs ++ count_from (length old.wires) (length a) = c.in_ok-extend_from_slice-in-Perm.ensures.items ∙ ap (λ l. old.inputs ++ l) (c.deref-in-Perm.ensures.value ∙ numbers) in
+    let numbers : c.in_ok-wires-in-Perm.wires.items ≡ count_from (length old.wires) (length a) =
+    c.in_ok-wires-in-Perm.ensures.numbers ∙ ap (λ l. count_from (length old.wires) (length l)) c.as_slice-in-Perm.ensures in
+    let inputs : c.extend_from_slice-in-Perm.new.self.items ≡ old.inputs ++ count_from (length old.wires) (length a) =
+    c.in_ok-extend_from_slice-in-Perm.ensures.items ∙ ap (λ l. old.inputs ++ l) (c.deref-in-Perm.ensures.value ∙ numbers) in
     IfOk-weaker c.push_at.result _ _ (λ _ done.
-    subst (λ x. drawn (record c.args.self.now { wires = c.add_wires-in-Perm.new.wires; inputs = c.extend_from_slice-in-Perm.new.self; outputs = c.push_at.new.list }) ≡ beside_graph old (graph_of x)) (sym m)
+    subst (λ x. drawn (record c.args.self.now { wires = c.add_wires-in-Perm.new.wires; inputs = c.extend_from_slice-in-Perm.new.self; outputs = c.push_at.new.list }) ≡ beside_graph old (graph_of x))
+    (sym m)
     (ap₂ (λ w i. record { wires = w; edges = old.edges; inputs = i; outputs = c.push_at.new.list.items }) wires inputs
     ∙ ap (λ o. record { wires = old.wires ++ a; edges = old.edges; inputs = old.inputs ++ count_from (length old.wires) (length a); outputs = o })
     (done ∙ ap₂ (λ l q. old.outputs ++ permuted l q) (c.deref-in-Perm-2.ensures.value ∙ numbers) c.places.ensures.value)
@@ -119,11 +127,13 @@ returns-in_ok-follow-in-Seq t c =
     let old : PlainGraph = drawn c.args.self.now in
     let mid : PlainGraph = drawn c.place.new.self in
     let first : drawn c.place.new.self ≡ beside_graph (record old { outputs = [] }) (graph_of s) =
-    c.in_ok-place-in-Seq.ensures ∙ ap₂ (λ o x. beside_graph (record old { outputs = o }) (graph_of x)) (ap (λ v. v.items) c.replace-before.ensures.after ∙ c.new.ensures.items) (ap morphism_of c.deref-in-Seq.ensures) in
+    c.in_ok-place-in-Seq.ensures ∙ ap₂ (λ o x. beside_graph (record old { outputs = o }) (graph_of x))
+    (ap (λ v. v.items) c.replace-before.ensures.after ∙ c.new.ensures.items) (ap morphism_of c.deref-in-Seq.ensures) in
     let live : c.deref-in-Seq-3.result.now ≡ c.place.new.self.outputs.items = c.deref-in-Seq-3.ensures.value ∙ ap (λ v. v.items) c.replace-middle.ensures.value in
     let outs : c.replace-middle.new.dest.items ≡ c.args.self.now.outputs.items = ap (λ v. v.items) (c.replace-middle.ensures.after ∙ c.replace-before.ensures.value) in
     let second : drawn c.follow.new.self ≡ followed (record mid { outputs = old.outputs }) (part mid.outputs 0 u) (graph_of u) =
-    c.in_ok-follow-in-Seq.ensures.drawn ∙ ap₂ (λ o l. followed (record mid { outputs = o }) (part l 0 (morphism_of c.deref-in-Seq-2.result.now)) (graph_of (morphism_of c.deref-in-Seq-2.result.now))) outs live
+    c.in_ok-follow-in-Seq.ensures.drawn ∙ ap₂ (λ o l. followed (record mid { outputs = o }) (part l 0 (morphism_of c.deref-in-Seq-2.result.now))
+    (graph_of (morphism_of c.deref-in-Seq-2.result.now))) outs live
     ∙ ap (λ x. followed (record mid { outputs = old.outputs }) (part mid.outputs 0 (morphism_of x)) (graph_of (morphism_of x))) c.deref-in-Seq-2.ensures in
     subst (λ x. drawn c.follow.new.self ≡ beside_graph old (graph_of x)) (sym m) (place_seq old mid (drawn c.follow.new.self) s u ty first second)
 

@@ -26,7 +26,8 @@ loop-w-preserved c =
           behind-input c.args.wires.now.items c.args.at_inputs.now c.args.self.now c.loop-w.w c.loop-w.numbers.items c.if-is_none.numbers.items c.loop-w.wires.items c.if-is_none.wires.items
           c.loop-w.invariant.0 c.loop-w.invariant.1
           (among-end c.args.self.now.inputs c.loop-w.w c.producer.result c.is_none.result c.producer.ensures.input c.is_none.ensures w.if-is_none.true)
-          (ap (λ v. v.items) w.numbers-is ∙ w.in_ok-push.ensures.items ∙ ap (λ x. c.loop-w.numbers.items ++ x ∷ []) (index-is c.args.at_inputs.now c.loop-w.w w.index-at_inputs-w.result below w.index-at_inputs-w.is))
+          (ap (λ v. v.items) w.numbers-is ∙ w.in_ok-push.ensures.items ∙ ap (λ x. c.loop-w.numbers.items ++ x ∷ [])
+          (index-is c.args.at_inputs.now c.loop-w.w w.index-at_inputs-w.result below w.index-at_inputs-w.is))
           (ap (λ v. v.items) w.wires-is)
       | else-is_none+in_ok-push-2+in_ok-share+in_ok-push-3 w ↦
           behind-other c.args.wires.now.items c.args.at_inputs.now c.args.self.now c.loop-w.w c.loop-w.numbers.items c.if-is_none.numbers.items c.loop-w.wires.items c.if-is_none.wires.items

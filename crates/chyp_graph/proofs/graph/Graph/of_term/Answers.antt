@@ -11,7 +11,8 @@ use Rattle.chyp_graph.proofs.Validity.{valid}
 use Rattle.chyp_graph.proofs.graph.Graph.of_term.Goals as goal
 
 -- the draft is the graph of the term
-lists : (c : goal.After-from_vec-4) → ◌≡◌ {A = PlainGraph} (record { wires = c.from_vec.result; edges = c.from_vec-2.result; inputs = c.from_vec-3.result; outputs = c.from_vec-4.result }) (graph_of (morphism_of c.args.term.now))
+lists : (c : goal.After-from_vec-4) → ◌≡◌ {A = PlainGraph}
+    (record { wires = c.from_vec.result; edges = c.from_vec-2.result; inputs = c.from_vec-3.result; outputs = c.from_vec-4.result }) (graph_of (morphism_of c.args.term.now))
 lists c =
     plain-same c.from_vec.ensures c.from_vec-2.ensures c.from_vec-3.ensures c.from_vec-4.ensures
     ∙ c.in_ok-place.ensures ∙ ap (λ d. beside_graph d (graph_of (morphism_of c.args.term.now))) c.new-draft.ensures ∙ place_empty (graph_of (morphism_of c.args.term.now))

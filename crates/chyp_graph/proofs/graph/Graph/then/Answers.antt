@@ -40,14 +40,17 @@ push_edges-requires c =
     let m : length g.outputs ≡ length h.inputs = middle-length g h c.self.invariant.valid v (ap output_sorts c.self.view_is ∙ c.requires.middle ∙ sym (ap input_sorts c.next.view_is)) in
     let table : (j : ℕ) → j < length h.inputs → slice_index c.in_ok-at_inputs.at_inputs.items (slice_index h.inputs j) ≡ slice_index g.outputs j =
     subst (λ o. (j : ℕ) → j < length h.inputs → slice_index c.in_ok-at_inputs.at_inputs.items (slice_index h.inputs j) ≡ slice_index o j) c.deref-2.ensures.value
-    (subst (λ l. (j : ℕ) → j < length l → slice_index c.in_ok-at_inputs.at_inputs.items (slice_index l j) ≡ slice_index c.deref-2.result.now j) c.deref.ensures.value c.in_ok-at_inputs.ensures.numbers) in
+    (subst (λ l. (j : ℕ) → j < length l → slice_index c.in_ok-at_inputs.at_inputs.items
+    (slice_index l j) ≡ slice_index c.deref-2.result.now j) c.deref.ensures.value c.in_ok-at_inputs.ensures.numbers) in
     let behind : c.in_ok-numbers.numbers.items ≡ map (number_behind (length g.wires) c.in_ok-at_inputs.at_inputs.items h.inputs) (count_from 0 (length h.wires)) =
     c.in_ok-numbers.ensures.numbers
     ∙ ap₂ (λ x t. map (number_behind (length x) t c.args.next.now.inputs) (count_from 0 (length c.args.next.now.wires))) c.in_ok-wires.ensures c.deref-3.ensures.value
     ∙ ap (λ k. map (number_behind (length g.wires) c.in_ok-at_inputs.at_inputs.items k.inputs) (count_from 0 (length k.wires))) (sym c.next.view_is) in
-    let n : c.in_ok-numbers.numbers.items ≡ map (joined g h) (count_from 0 (length h.wires)) = numbers-joined g h c.in_ok-at_inputs.at_inputs.items c.in_ok-numbers.numbers.items (sym m) table behind in
+    let n : c.in_ok-numbers.numbers.items ≡ map (joined g h) (count_from 0 (length h.wires)) =
+    numbers-joined g h c.in_ok-at_inputs.at_inputs.items c.in_ok-numbers.numbers.items (sym m) table behind in
     let size : length h.wires ≡ length c.deref-5.result.now = sym (ap length c.deref-5.ensures.value ∙ table-length (joined g h) (length h.wires) c.in_ok-numbers.numbers.items n) in
-    subst (λ l. All (λ e. All (λ w. w < length c.deref-5.result.now) e.sources × All (λ w. w < length c.deref-5.result.now) e.targets) l) (sym c.deref-4.ensures.value) (edges-within h v (length c.deref-5.result.now) size)
+    subst (λ l. All (λ e. All (λ w. w < length c.deref-5.result.now) e.sources × All (λ w. w < length c.deref-5.result.now) e.targets) l)
+    (sym c.deref-4.ensures.value) (edges-within h v (length c.deref-5.result.now) size)
 
 pub push_wires-requires : goal.push_wires-requires
 push_wires-requires c =
@@ -57,12 +60,14 @@ push_wires-requires c =
     let m : length g.outputs ≡ length h.inputs = middle-length g h c.self.invariant.valid v (ap output_sorts c.self.view_is ∙ c.requires.middle ∙ sym (ap input_sorts c.next.view_is)) in
     let table : (j : ℕ) → j < length h.inputs → slice_index c.in_ok-at_inputs.at_inputs.items (slice_index h.inputs j) ≡ slice_index g.outputs j =
     subst (λ o. (j : ℕ) → j < length h.inputs → slice_index c.in_ok-at_inputs.at_inputs.items (slice_index h.inputs j) ≡ slice_index o j) c.deref-2.ensures.value
-    (subst (λ l. (j : ℕ) → j < length l → slice_index c.in_ok-at_inputs.at_inputs.items (slice_index l j) ≡ slice_index c.deref-2.result.now j) c.deref.ensures.value c.in_ok-at_inputs.ensures.numbers) in
+    (subst (λ l. (j : ℕ) → j < length l → slice_index c.in_ok-at_inputs.at_inputs.items
+    (slice_index l j) ≡ slice_index c.deref-2.result.now j) c.deref.ensures.value c.in_ok-at_inputs.ensures.numbers) in
     let behind : c.in_ok-numbers.numbers.items ≡ map (number_behind (length g.wires) c.in_ok-at_inputs.at_inputs.items h.inputs) (count_from 0 (length h.wires)) =
     c.in_ok-numbers.ensures.numbers
     ∙ ap₂ (λ x t. map (number_behind (length x) t c.args.next.now.inputs) (count_from 0 (length c.args.next.now.wires))) c.in_ok-wires.ensures c.deref-3.ensures.value
     ∙ ap (λ k. map (number_behind (length g.wires) c.in_ok-at_inputs.at_inputs.items k.inputs) (count_from 0 (length k.wires))) (sym c.next.view_is) in
-    let n : c.in_ok-numbers.numbers.items ≡ map (joined g h) (count_from 0 (length h.wires)) = numbers-joined g h c.in_ok-at_inputs.at_inputs.items c.in_ok-numbers.numbers.items (sym m) table behind in
+    let n : c.in_ok-numbers.numbers.items ≡ map (joined g h) (count_from 0 (length h.wires)) =
+    numbers-joined g h c.in_ok-at_inputs.at_inputs.items c.in_ok-numbers.numbers.items (sym m) table behind in
     let size : length h.wires ≡ length c.deref-8.result.now = sym (ap length c.deref-8.ensures.value ∙ table-length (joined g h) (length h.wires) c.in_ok-numbers.numbers.items n) in
     subst (λ l. All (λ w. w < length c.deref-8.result.now) l) (sym c.deref-7.ensures.value) (outputs-within h v (length c.deref-8.result.now) size)
 
@@ -74,12 +79,14 @@ of_parts-requires-clause-valid c =
     let m : length g.outputs ≡ length h.inputs = middle-length g h c.self.invariant.valid v (ap output_sorts c.self.view_is ∙ c.requires.middle ∙ sym (ap input_sorts c.next.view_is)) in
     let table : (j : ℕ) → j < length h.inputs → slice_index c.in_ok-at_inputs.at_inputs.items (slice_index h.inputs j) ≡ slice_index g.outputs j =
     subst (λ o. (j : ℕ) → j < length h.inputs → slice_index c.in_ok-at_inputs.at_inputs.items (slice_index h.inputs j) ≡ slice_index o j) c.deref-2.ensures.value
-    (subst (λ l. (j : ℕ) → j < length l → slice_index c.in_ok-at_inputs.at_inputs.items (slice_index l j) ≡ slice_index c.deref-2.result.now j) c.deref.ensures.value c.in_ok-at_inputs.ensures.numbers) in
+    (subst (λ l. (j : ℕ) → j < length l → slice_index c.in_ok-at_inputs.at_inputs.items
+    (slice_index l j) ≡ slice_index c.deref-2.result.now j) c.deref.ensures.value c.in_ok-at_inputs.ensures.numbers) in
     let behind : c.in_ok-numbers.numbers.items ≡ map (number_behind (length g.wires) c.in_ok-at_inputs.at_inputs.items h.inputs) (count_from 0 (length h.wires)) =
     c.in_ok-numbers.ensures.numbers
     ∙ ap₂ (λ x t. map (number_behind (length x) t c.args.next.now.inputs) (count_from 0 (length c.args.next.now.wires))) c.in_ok-wires.ensures c.deref-3.ensures.value
     ∙ ap (λ k. map (number_behind (length g.wires) c.in_ok-at_inputs.at_inputs.items k.inputs) (count_from 0 (length k.wires))) (sym c.next.view_is) in
-    let n : c.in_ok-numbers.numbers.items ≡ map (joined g h) (count_from 0 (length h.wires)) = numbers-joined g h c.in_ok-at_inputs.at_inputs.items c.in_ok-numbers.numbers.items (sym m) table behind in
+    let n : c.in_ok-numbers.numbers.items ≡ map (joined g h) (count_from 0 (length h.wires)) =
+    numbers-joined g h c.in_ok-at_inputs.at_inputs.items c.in_ok-numbers.numbers.items (sym m) table behind in
     let lists : ◌≡◌ {A = PlainGraph} (record { wires = c.from_vec.result; edges = c.from_vec-2.result; inputs = c.from_vec-3.result; outputs = c.from_vec-4.result }) (then_graph g h) =
     then-lists g h v c.in_ok-numbers.numbers.items n c.from_vec.result c.from_vec-2.result c.from_vec-3.result c.from_vec-4.result
     (c.from_vec.ensures ∙ c.in_ok-numbers.ensures.wires ∙ ap₂ (λ x k. x ++ permuted k.wires (inner_wires k)) c.in_ok-wires.ensures (sym c.next.view_is))
@@ -96,19 +103,23 @@ of_parts-requires-clause-few_wires c =
     let m : length g.outputs ≡ length h.inputs = middle-length g h c.self.invariant.valid v (ap output_sorts c.self.view_is ∙ c.requires.middle ∙ sym (ap input_sorts c.next.view_is)) in
     let table : (j : ℕ) → j < length h.inputs → slice_index c.in_ok-at_inputs.at_inputs.items (slice_index h.inputs j) ≡ slice_index g.outputs j =
     subst (λ o. (j : ℕ) → j < length h.inputs → slice_index c.in_ok-at_inputs.at_inputs.items (slice_index h.inputs j) ≡ slice_index o j) c.deref-2.ensures.value
-    (subst (λ l. (j : ℕ) → j < length l → slice_index c.in_ok-at_inputs.at_inputs.items (slice_index l j) ≡ slice_index c.deref-2.result.now j) c.deref.ensures.value c.in_ok-at_inputs.ensures.numbers) in
+    (subst (λ l. (j : ℕ) → j < length l → slice_index c.in_ok-at_inputs.at_inputs.items
+    (slice_index l j) ≡ slice_index c.deref-2.result.now j) c.deref.ensures.value c.in_ok-at_inputs.ensures.numbers) in
     let behind : c.in_ok-numbers.numbers.items ≡ map (number_behind (length g.wires) c.in_ok-at_inputs.at_inputs.items h.inputs) (count_from 0 (length h.wires)) =
     c.in_ok-numbers.ensures.numbers
     ∙ ap₂ (λ x t. map (number_behind (length x) t c.args.next.now.inputs) (count_from 0 (length c.args.next.now.wires))) c.in_ok-wires.ensures c.deref-3.ensures.value
     ∙ ap (λ k. map (number_behind (length g.wires) c.in_ok-at_inputs.at_inputs.items k.inputs) (count_from 0 (length k.wires))) (sym c.next.view_is) in
-    let n : c.in_ok-numbers.numbers.items ≡ map (joined g h) (count_from 0 (length h.wires)) = numbers-joined g h c.in_ok-at_inputs.at_inputs.items c.in_ok-numbers.numbers.items (sym m) table behind in
+    let n : c.in_ok-numbers.numbers.items ≡ map (joined g h) (count_from 0 (length h.wires)) =
+    numbers-joined g h c.in_ok-at_inputs.at_inputs.items c.in_ok-numbers.numbers.items (sym m) table behind in
     let lists : ◌≡◌ {A = PlainGraph} (record { wires = c.from_vec.result; edges = c.from_vec-2.result; inputs = c.from_vec-3.result; outputs = c.from_vec-4.result }) (then_graph g h) =
     then-lists g h v c.in_ok-numbers.numbers.items n c.from_vec.result c.from_vec-2.result c.from_vec-3.result c.from_vec-4.result
     (c.from_vec.ensures ∙ c.in_ok-numbers.ensures.wires ∙ ap₂ (λ x k. x ++ permuted k.wires (inner_wires k)) c.in_ok-wires.ensures (sym c.next.view_is))
     (c.from_vec-2.ensures ∙ c.in_ok-push_edges.ensures ∙ ap₂ (λ x y. x ++ y) c.in_ok-edges.ensures (ap₂ (λ k es. map (renamed (slice_index k)) es) c.deref-5.ensures.value c.deref-4.ensures.value))
     (c.from_vec-3.ensures ∙ c.in_ok-inputs.ensures.items ∙ c.deref-6.ensures.value)
     (c.from_vec-4.ensures ∙ c.in_ok-push_wires.ensures ∙ ap₂ (λ x y. x ++ y) c.new-outputs.ensures.items (ap₂ (λ k ws. map (slice_index k) ws) c.deref-8.ensures.value c.deref-7.ensures.value)) in
-    subst (λ k. length k.wires < 2147483648) (sym lists) (then-few g h (subst (λ k. length k.wires + length h.wires < 2147483648) (sym c.self.view_is) (subst (λ k. length c.args.self.now.wires + length k.wires < 2147483648) (sym c.next.view_is) c.requires.few_wires)))
+    subst (λ k. length k.wires < 2147483648) (sym lists)
+    (then-few g h (subst (λ k. length k.wires + length h.wires < 2147483648) (sym c.self.view_is)
+    (subst (λ k. length c.args.self.now.wires + length k.wires < 2147483648) (sym c.next.view_is) c.requires.few_wires)))
 
 pub returns : goal.returns
 returns c =
@@ -118,12 +129,14 @@ returns c =
     let m : length g.outputs ≡ length h.inputs = middle-length g h c.self.invariant.valid v (ap output_sorts c.self.view_is ∙ c.requires.middle ∙ sym (ap input_sorts c.next.view_is)) in
     let table : (j : ℕ) → j < length h.inputs → slice_index c.in_ok-at_inputs.at_inputs.items (slice_index h.inputs j) ≡ slice_index g.outputs j =
     subst (λ o. (j : ℕ) → j < length h.inputs → slice_index c.in_ok-at_inputs.at_inputs.items (slice_index h.inputs j) ≡ slice_index o j) c.deref-2.ensures.value
-    (subst (λ l. (j : ℕ) → j < length l → slice_index c.in_ok-at_inputs.at_inputs.items (slice_index l j) ≡ slice_index c.deref-2.result.now j) c.deref.ensures.value c.in_ok-at_inputs.ensures.numbers) in
+    (subst (λ l. (j : ℕ) → j < length l → slice_index c.in_ok-at_inputs.at_inputs.items
+    (slice_index l j) ≡ slice_index c.deref-2.result.now j) c.deref.ensures.value c.in_ok-at_inputs.ensures.numbers) in
     let behind : c.in_ok-numbers.numbers.items ≡ map (number_behind (length g.wires) c.in_ok-at_inputs.at_inputs.items h.inputs) (count_from 0 (length h.wires)) =
     c.in_ok-numbers.ensures.numbers
     ∙ ap₂ (λ x t. map (number_behind (length x) t c.args.next.now.inputs) (count_from 0 (length c.args.next.now.wires))) c.in_ok-wires.ensures c.deref-3.ensures.value
     ∙ ap (λ k. map (number_behind (length g.wires) c.in_ok-at_inputs.at_inputs.items k.inputs) (count_from 0 (length k.wires))) (sym c.next.view_is) in
-    let n : c.in_ok-numbers.numbers.items ≡ map (joined g h) (count_from 0 (length h.wires)) = numbers-joined g h c.in_ok-at_inputs.at_inputs.items c.in_ok-numbers.numbers.items (sym m) table behind in
+    let n : c.in_ok-numbers.numbers.items ≡ map (joined g h) (count_from 0 (length h.wires)) =
+    numbers-joined g h c.in_ok-at_inputs.at_inputs.items c.in_ok-numbers.numbers.items (sym m) table behind in
     let lists : ◌≡◌ {A = PlainGraph} (record { wires = c.from_vec.result; edges = c.from_vec-2.result; inputs = c.from_vec-3.result; outputs = c.from_vec-4.result }) (then_graph g h) =
     then-lists g h v c.in_ok-numbers.numbers.items n c.from_vec.result c.from_vec-2.result c.from_vec-3.result c.from_vec-4.result
     (c.from_vec.ensures ∙ c.in_ok-numbers.ensures.wires ∙ ap₂ (λ x k. x ++ permuted k.wires (inner_wires k)) c.in_ok-wires.ensures (sym c.next.view_is))

@@ -22,7 +22,8 @@ loop-w-preserved c =
     record {
       removal = e.removal;
       live = subst (λ l. AreLive l (take (c.loop-w.w-index + 1) c.args.wires.now)) (sym e.live)
-          (live-one-more g c.loop-w.self.live.items c.args.wires.now c.loop-w.w-index w c.loop-w-test.true (get-item c.args.wires.now c.loop-w.w-index w c.loop-w-test.true c.w-item.is) room c.loop-w.invariant.live);
+          (live-one-more g c.loop-w.self.live.items c.args.wires.now c.loop-w.w-index w c.loop-w-test.true
+          (get-item c.args.wires.now c.loop-w.w-index w c.loop-w-test.true c.w-item.is) room c.loop-w.invariant.live);
       stay = λ v h. ap (λ l. slice_get l v) e.live ∙ lit c.loop-w.self.live.items w v room (c.loop-w.invariant.stay v h);
       order = Grows-trans c.args.self.now.order.items c.loop-w.self.order.items c.make_live.new.self.order.items c.loop-w.invariant.order e.order;
     }

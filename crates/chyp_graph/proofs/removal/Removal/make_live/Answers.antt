@@ -8,4 +8,5 @@ returns-in-None-clause-removal c =
     let g = c.args.graph.now in
     let r = c.args.self.now in
     subst (λ w. IsWaiting g (slice_set r.live.items w true) r.waits.items r.order.items) (sym c.w.view_is)
-    (waiting-same g r.live.items r.waits.items r.order.items c.args.w c.requires.removal c.requires.wire c.requires.made (λ k n _. output-none g c.requires.valid c.args.w (c.in-None.ensures.output.0 refl) k n))
+    (waiting-same g r.live.items r.waits.items r.order.items c.args.w c.requires.removal c.requires.wire c.requires.made
+    (λ k n _. output-none g c.requires.valid c.args.w (c.in-None.ensures.output.0 refl) k n))

@@ -70,9 +70,11 @@ returns-in_ok-push-clause-removal c =
     let v : c.k.inside.0 ≡ c.args.k = c.k.view_is in
     let at : slice_get r.waits.items c.k.inside.0 ≡ Some c.index.result.now = get-item r.waits.items c.k.inside.0 c.index.result.now (omega arith) c.index.ensures in
     let f = c.first_unlive-place.ensures in
-    let m = moved g r.live.items c.deref.result.now r.waits.items r.order.items c.args.w c.w.inside.0 c.args.k c.args.i c.index.result.now c.first_unlive-place.result e c.requires.valid c.requires.removal c.requires.made c.requires.source
+    let m = moved g r.live.items c.deref.result.now r.waits.items r.order.items c.args.w c.w.inside.0 c.args.k c.args.i c.index.result.now
+    c.first_unlive-place.result e c.requires.valid c.requires.removal c.requires.made c.requires.source
     (ap (slice_get r.waits.items) (sym v) ∙ at) c.if-index-i.false c.edge.ensures c.w.view_is c.deref.ensures.value f.passed f.stuck in
-    moved-done g r.live.items r.waits.items r.order.items c.push.new.self.items c.args.w c.w.inside.0 c.args.k c.k-2.inside.0 c.args.i c.first_unlive-place.result e m c.edge.ensures c.if-place-sources.true c.w.view_is c.k-2.view_is c.in_ok-push.ensures.items
+    moved-done g r.live.items r.waits.items r.order.items c.push.new.self.items c.args.w c.w.inside.0 c.args.k c.k-2.inside.0 c.args.i c.first_unlive-place.result e
+    m c.edge.ensures c.if-place-sources.true c.w.view_is c.k-2.view_is c.in_ok-push.ensures.items
 
 pub returns-else-place-sources-clause-removal : goal.returns-else-place-sources-clause-removal
 returns-else-place-sources-clause-removal c =
@@ -84,6 +86,8 @@ returns-else-place-sources-clause-removal c =
     let v : c.k.inside.0 ≡ c.args.k = c.k.view_is in
     let at : slice_get r.waits.items c.k.inside.0 ≡ Some c.index.result.now = get-item r.waits.items c.k.inside.0 c.index.result.now (omega arith) c.index.ensures in
     let f = c.first_unlive-place.ensures in
-    let m = moved g r.live.items c.deref.result.now r.waits.items r.order.items c.args.w c.w.inside.0 c.args.k c.args.i c.index.result.now c.first_unlive-place.result e c.requires.valid c.requires.removal c.requires.made c.requires.source
+    let m = moved g r.live.items c.deref.result.now r.waits.items r.order.items c.args.w c.w.inside.0 c.args.k c.args.i c.index.result.now
+    c.first_unlive-place.result e c.requires.valid c.requires.removal c.requires.made c.requires.source
     (ap (slice_get r.waits.items) (sym v) ∙ at) c.if-index-i.false c.edge.ensures c.w.view_is c.deref.ensures.value f.passed f.stuck in
-    moved-on g r.live.items r.waits.items r.order.items c.args.w c.w.inside.0 c.args.k c.k-2.inside.0 c.args.i c.first_unlive-place.result e m c.edge.ensures f.place.1 c.if-place-sources.false c.w.view_is c.k-2.view_is
+    moved-on g r.live.items r.waits.items r.order.items c.args.w c.w.inside.0 c.args.k c.k-2.inside.0 c.args.i c.first_unlive-place.result e m c.edge.ensures
+    f.place.1 c.if-place-sources.false c.w.view_is c.k-2.view_is

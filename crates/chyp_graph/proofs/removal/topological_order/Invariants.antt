@@ -1,7 +1,7 @@
 use Rattle.std.proofs.Common.{ℕ, ◌≡◌, ◌<◌, Some, slice_get}
 use Rattle.chyp_graph.specs.PlainGraph.{Edge}
 use Rattle.chyp_graph.specs.Removal.{AreLive, IsRemoval}
-use Rattle.chyp_graph.proofs.removal.order_of.Given as goal
+use Rattle.chyp_graph.proofs.removal.topological_order.Given as goal
 
 abbrev pub invariant-loop-j : goal.invariant-loop-j
 invariant-loop-j l = record {

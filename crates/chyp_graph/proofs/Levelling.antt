@@ -15,7 +15,7 @@ use Rattle.chyp_term.proofs.Slices.{get-set_other, take-suc, set-cases}
 use Rattle.chyp_term.proofs.Rearrangement.{flat-append}
 use Rattle.chyp_graph.specs.Graph.{target_at}
 use Rattle.chyp_graph.specs.PlainGraph.{Edge, PlainGraph, targets_of}
-use Rattle.chyp_graph.specs.Removal.{AreDated, IsLiveFrom, IsOrder, IsWritten, live_behind}
+use Rattle.chyp_graph.specs.Removal.{AreLevels, IsLiveFrom, IsTopologicalOrder, IsWritten, live_behind}
 use Rattle.chyp_graph.specs.Rounds.{AreRounds, IsRound, is_taken_within}
 use Rattle.chyp_graph.specs.Validity.{IsValid, is_ready, taken_within}
 use Rattle.chyp_graph.proofs.Removing.{Once-apart, Once-perm, Once-right, port-once}
@@ -30,7 +30,8 @@ among-less xs ys v h = go (cases_Bool (is_among xs v))
     go (inl t) = let r = member-among (xs ++ ys) v (member-left xs ys v (among-member xs v t)) in absurd (cc)
     go (inr f) = f
 
-pub written-more : (wires : List ℕ) (i w x : ℕ) (before now : List ℕ) → slice_get wires i ≡ Some w → w < length before → IsWritten (take i wires) x before now → IsWritten (take (i + 1) wires) x before (slice_set now w x)
+pub written-more : (wires : List ℕ) (i w x : ℕ) (before now : List ℕ) → slice_get wires i ≡ Some w → w < length before → IsWritten (take i wires) x before now
+    → IsWritten (take (i + 1) wires) x before (slice_set now w x)
 written-more wires i w x before now q b t = record {
   size = length-set now w x ∙ t.size;
   at = λ v n h m. at v n (set-cases now w x v n room h) (member-split (take i wires) (w ∷ []) v (among-member (take i wires ++ w ∷ []) v (ap (λ l. is_among l v) (sym next) ∙ m)));
@@ -50,7 +51,9 @@ written-more wires i w x before now q b t = record {
     at v n (inr k) (inr (inr e)) = absurd e
 
     rest : (v : ℕ) → is_among (take i wires ++ w ∷ []) v ≡ false → slice_get (slice_set now w x) v ≡ slice_get before v
-    rest v m = get-set_other now w v x (λ e. let r = member-among (take i wires ++ w ∷ []) v (member-right (take i wires) (w ∷ []) v (inl (sym e))) in absurd (cc)) ∙ t.rest v (among-less (take i wires) (w ∷ []) v m)
+    rest v m =
+        get-set_other now w v x (λ e. let r = member-among (take i wires ++ w ∷ []) v (member-right (take i wires) (w ∷ []) v (inl (sym e))) in absurd (cc))
+        ∙ t.rest v (among-less (take i wires) (w ∷ []) v m)
 
 -- ## the round of one edge
 
@@ -60,19 +63,20 @@ among-later g n m w l h =
     member-among (live_after g m) w (subst (λ x. Member w (live_after g x)) e (live-later g n (m - n) w (among-member (live_after g n) w h)))
 
 -- the first number above those of the sources
-pub round-is : (g : PlainGraph) (live dates : List ℕ) (e : Edge) (r : ℕ) → AreDated g live dates → is_ready live e ≡ true → All (λ w. w < length dates) e.sources
-    → ((i : ℕ) → i < length e.sources → slice_index dates (slice_index e.sources i) < r) → (r ≡ 1) ⊎ ((i : ℕ) × (i < length e.sources) × (slice_index dates (slice_index e.sources i) + 1 ≡ r)) → 0 < r → IsRound g e r
-round-is g live dates e zero t h b above least p = absurd (omega arith)
-round-is g live dates e (suc m) t h b above least p = record {
+pub round-is : (g : PlainGraph) (live levels : List ℕ) (e : Edge) (r : ℕ) → AreLevels g live levels → is_ready live e ≡ true → All (λ w. w < length levels) e.sources
+    → ((i : ℕ) → i < length e.sources → slice_index levels (slice_index e.sources i) < r)
+    → (r ≡ 1) ⊎ ((i : ℕ) × (i < length e.sources) × (slice_index levels (slice_index e.sources i) + 1 ≡ r)) → 0 < r → IsRound g e r
+round-is g live levels e zero t h b above least p = absurd (omega arith)
+round-is g live levels e (suc m) t h b above least p = record {
   by_then = all-members (is_among (live_after g m)) e.sources (λ w k. ready w (member-get e.sources w k));
   not_before = before;
 }
   where
-    dated : (i : ℕ) → i < length e.sources → IsLiveFrom g (slice_index e.sources i) (slice_index dates (slice_index e.sources i))
+    dated : (i : ℕ) → i < length e.sources → IsLiveFrom g (slice_index e.sources i) (slice_index levels (slice_index e.sources i))
     dated i l =
         let w = slice_index e.sources i in
         let at : slice_get e.sources i ≡ Some w = get-index e.sources i l in
-        t.each w (slice_index dates w) (members-all (is_among live) e.sources h w (get-member e.sources i w at)) (get-index dates w (b i 0 l))
+        t.each w (slice_index levels w) (members-all (is_among live) e.sources h w (get-member e.sources i w at)) (get-index levels w (b i 0 l))
 
     ready : (w : ℕ) → (i : ℕ) × (slice_get e.sources i ≡ Some w) → is_among (live_after g m) w ≡ true
     ready w i =
@@ -80,13 +84,14 @@ round-is g live dates e (suc m) t h b above least p = record {
         let x : slice_index e.sources i.0 ≡ w = index-get e.sources i.0 w i.1 in
         let d = dated i.0 l in
         let a = above i.0 l in
-        subst (λ v. is_among (live_after g m) v ≡ true) x (among-later g (slice_index dates (slice_index e.sources i.0)) m (slice_index e.sources i.0) (omega arith) d.by_then)
+        subst (λ v. is_among (live_after g m) v ≡ true) x (among-later g (slice_index levels (slice_index e.sources i.0)) m (slice_index e.sources i.0) (omega arith) d.by_then)
 
     before : (n : ℕ) → n < suc m → is_taken_within g e n ≡ false
     before zero l = refl
     before (suc q) l = go least (cases_Bool (is_ready (live_after g q) e))
       where
-        go : (suc m ≡ 1) ⊎ ((i : ℕ) × (i < length e.sources) × (slice_index dates (slice_index e.sources i) + 1 ≡ suc m)) → (is_ready (live_after g q) e ≡ true) ⊎ (is_ready (live_after g q) e ≡ false) → is_ready (live_after g q) e ≡ false
+        go : (suc m ≡ 1) ⊎ ((i : ℕ) × (i < length e.sources) × (slice_index levels (slice_index e.sources i) + 1 ≡ suc m))
+            → (is_ready (live_after g q) e ≡ true) ⊎ (is_ready (live_after g q) e ≡ false) → is_ready (live_after g q) e ≡ false
         go x (inr f) = f
         go (inl x) (inl y) = absurd (omega arith)
         go (inr x) (inl y) =
@@ -121,7 +126,9 @@ target-live g v k e r w q t m = record { by_then = now r t.by_then; not_before =
 
     now : (r : ℕ) → is_taken_within g e r ≡ true → is_among (live_after g r) w ≡ true
     now zero h = cc
-    now (suc n) h = member-among (live_after g (suc n)) w (member-right g.inputs (targets_of (taken_within g (suc n))) w (member-flat (λ e. e.targets) (taken_within g (suc n)) e w (taken-member g n e (get-member g.edges k e q) h) m))
+    now (suc n) h =
+        member-among (live_after g (suc n)) w (member-right g.inputs (targets_of (taken_within g (suc n))) w
+        (member-flat (λ e. e.targets) (taken_within g (suc n)) e w (taken-member g n e (get-member g.edges k e q) h) m))
 
     same : (d : Edge) → Member d g.edges → Member w d.targets → d ≡ e
     same d a b =
@@ -154,20 +161,24 @@ target-live g v k e r w q t m = record { by_then = now r t.by_then; not_before =
             let y = taken n d.0 d.1 (same d.0 (inside n d.0 d.1) d.2) in
             cc
 
-pub dated-more : (g : PlainGraph) → IsValid g → length g.edges < 2147483648 → (order dates new : List ℕ) (j k r : ℕ) (e : Edge) → slice_get order j ≡ Some k → slice_get g.edges k ≡ Some e → IsRound g e r
-    → AreDated g (live_behind g (take j order)) dates → IsWritten e.targets r dates new → AreDated g (live_behind g (take (j + 1) order)) new
-dated-more g v small order dates new j k r e h q t d u = record {
+pub levels-more : (g : PlainGraph) → IsValid g → length g.edges < 2147483648 → (order levels new : List ℕ) (j k r : ℕ) (e : Edge) → slice_get order j ≡ Some k
+    → slice_get g.edges k ≡ Some e → IsRound g e r
+    → AreLevels g (live_behind g (take j order)) levels → IsWritten e.targets r levels new → AreLevels g (live_behind g (take (j + 1) order)) new
+levels-more g v small order levels new j k r e h q t d u = record {
   size = u.size ∙ d.size;
   few = All-from_get_members {P = λ m. m < 2147483648} new (λ m a. let i = member-get new m a in few i.0 m i.1 (cases_Bool (is_among e.targets i.0)));
-  each = λ w n a p. each w n p (member-split g.inputs (targets_of (permuted g.edges (take (j + 1) order))) w (among-member (live_behind g (take (j + 1) order)) w a)) (cases_Bool (is_among e.targets w));
+  each = λ w n a p. each w n p (member-split g.inputs (targets_of (permuted g.edges (take (j + 1) order))) w (among-member (live_behind g (take (j + 1) order)) w a))
+      (cases_Bool (is_among e.targets w));
 }
   where
     few : (w m : ℕ) → slice_get new w ≡ Some m → (is_among e.targets w ≡ true) ⊎ (is_among e.targets w ≡ false) → m < 2147483648
     few w m p (inl a) = let x = u.at w m p a in let y = round-few g v k e r q t in omega arith
-    few w m p (inr a) = let x = sym (u.rest w a) ∙ p in subst (λ z. z < 2147483648) (index-get dates w m x) (d.few w 0 (slice_get-length dates w m x))
+    few w m p (inr a) = let x = sym (u.rest w a) ∙ p in subst (λ z. z < 2147483648) (index-get levels w m x) (d.few w 0 (slice_get-length levels w m x))
 
     next : targets_of (permuted g.edges (take (j + 1) order)) ≡ targets_of (permuted g.edges (take j order)) ++ targets_of (permuted g.edges (k ∷ []))
-    next = ap (λ l. targets_of (permuted g.edges l)) (take-suc order j k h) ∙ ap targets_of (permuted-append g.edges (take j order) (k ∷ [])) ∙ flat-append (λ e. e.targets) (permuted g.edges (take j order)) (permuted g.edges (k ∷ []))
+    next =
+        ap (λ l. targets_of (permuted g.edges l)) (take-suc order j k h) ∙ ap targets_of (permuted-append g.edges (take j order) (k ∷ []))
+        ∙ flat-append (λ e. e.targets) (permuted g.edges (take j order)) (permuted g.edges (k ∷ []))
 
     last : (w : ℕ) → Member w (targets_of (permuted g.edges (k ∷ []))) → Member w e.targets
     last w m = go (member-split e.targets [] w (subst (λ o. Member w (targets_of (cons_option o []))) q m))
@@ -179,7 +190,8 @@ dated-more g v small order dates new j k r e h q t d u = record {
     older : (w n : ℕ) → slice_get new w ≡ Some n → is_among e.targets w ≡ false → is_among (live_behind g (take j order)) w ≡ true → IsLiveFrom g w n
     older w n p f a = d.each w n a (sym (u.rest w f) ∙ p)
 
-    each : (w n : ℕ) → slice_get new w ≡ Some n → (Member w g.inputs) ⊎ (Member w (targets_of (permuted g.edges (take (j + 1) order)))) → (is_among e.targets w ≡ true) ⊎ (is_among e.targets w ≡ false) → IsLiveFrom g w n
+    each : (w n : ℕ) → slice_get new w ≡ Some n → (Member w g.inputs) ⊎ (Member w (targets_of (permuted g.edges (take (j + 1) order))))
+        → (is_among e.targets w ≡ true) ⊎ (is_among e.targets w ≡ false) → IsLiveFrom g w n
     each w n p m (inl a) = subst (IsLiveFrom g w) (sym (u.at w n p a)) (target-live g v k e r w q t (among-member e.targets w a))
     each w n p (inl m) (inr f) = older w n p f (member-among (live_behind g (take j order)) w (member-left g.inputs _ w m))
     each w n p (inr m) (inr f) = go (member-split (targets_of (permuted g.edges (take j order))) (targets_of (permuted g.edges (k ∷ []))) w (subst (Member w) next m))
@@ -192,7 +204,8 @@ dated-more g v small order dates new j k r e h q t d u = record {
 abbrev pub AreKnown : PlainGraph → List ℕ → List ℕ → ℕ → Type 0
 AreKnown g order rounds j = (i k : ℕ) (e : Edge) (r : ℕ) → i < j → slice_get order i ≡ Some k → slice_get g.edges k ≡ Some e → slice_get rounds k ≡ Some r → IsRound g e r
 
-pub known-more : (g : PlainGraph) (order rounds : List ℕ) (j k r : ℕ) (e : Edge) → slice_get order j ≡ Some k → slice_get g.edges k ≡ Some e → k < length rounds → IsRound g e r → AreKnown g order rounds j → AreKnown g order (slice_set rounds k r) (j + 1)
+pub known-more : (g : PlainGraph) (order rounds : List ℕ) (j k r : ℕ) (e : Edge) → slice_get order j ≡ Some k → slice_get g.edges k ≡ Some e → k < length rounds
+    → IsRound g e r → AreKnown g order rounds j → AreKnown g order (slice_set rounds k r) (j + 1)
 known-more g order rounds j k r e h q b t a i m d s l p y z = go (set-cases rounds k r m s b z)
   where
     go : ((m ≡ k) × (s ≡ r)) ⊎ ((m ≢ k) × (slice_get rounds m ≡ Some s)) → IsRound g d s
@@ -209,7 +222,7 @@ known-more g order rounds j k r e h q b t a i m d s l p y z = go (set-cases roun
             let f : Some m ≡ Some k = sym p ∙ ap (slice_get order) ij ∙ h in
             absurd (x.0 cc)
 
-pub rounds-known : (g : PlainGraph) (order rounds : List ℕ) (j : ℕ) → IsOrder g order → length rounds ≡ length g.edges → length order ≤ j → AreKnown g order rounds j → AreRounds g rounds
+pub rounds-known : (g : PlainGraph) (order rounds : List ℕ) (j : ℕ) → IsTopologicalOrder g order → length rounds ≡ length g.edges → length order ≤ j → AreKnown g order rounds j → AreRounds g rounds
 rounds-known g order rounds j t s l a = record {
   size = s;
   each = λ k e r q h.
@@ -218,6 +231,6 @@ rounds-known g order rounds j t s l a = record {
       a i.0 k e r (omega arith) i.1 q h;
 }
 
-pub least-positive : (dates sources : List ℕ) (r : ℕ) → (r ≡ 1) ⊎ ((i : ℕ) × (i < length sources) × (slice_index dates (slice_index sources i) + 1 ≡ r)) → 0 < r
-least-positive dates sources r (inl e) = omega arith
-least-positive dates sources r (inr i) = let e = i.2 in omega arith
+pub least-positive : (levels sources : List ℕ) (r : ℕ) → (r ≡ 1) ⊎ ((i : ℕ) × (i < length sources) × (slice_index levels (slice_index sources i) + 1 ≡ r)) → 0 < r
+least-positive levels sources r (inl e) = omega arith
+least-positive levels sources r (inr i) = let e = i.2 in omega arith

@@ -4,15 +4,16 @@ use Rattle.chyp_graph.specs.PlainGraph.{Edge}
 use Rattle.chyp_graph.specs.Removal.{AreLive, IsRemoval, live_behind}
 use Rattle.chyp_term.proofs.Closure.{get-item}
 use Rattle.chyp_graph.proofs.Removing.{AreTargetsLive, inputs-made, inputs-wires, removal-end, targets-end, targets-made, targets-more, targets-wires}
-use Rattle.chyp_graph.proofs.removal.order_of.Goals as goal
-use Rattle.chyp_graph.proofs.removal.order_of.Goals.{then-j-len+in_ok-make_all_live-2, else-j-len}
+use Rattle.chyp_graph.proofs.removal.topological_order.Goals as goal
+use Rattle.chyp_graph.proofs.removal.topological_order.Goals.{then-j-len+in_ok-make_all_live-2, else-j-len}
 
 pub make_all_live-requires-clause-wires : goal.make_all_live-requires-clause-wires
 make_all_live-requires-clause-wires c = subst (All (λ w. w < length c.args.graph.now.wires)) (sym c.inputs-inputs.ensures.inputs) (inputs-wires c.args.graph.now c.inputs-inputs.ensures.valid)
 
 pub make_all_live-requires-clause-made : goal.make_all_live-requires-clause-made
 make_all_live-requires-clause-made c =
-    subst (All (λ w. is_among (live_behind c.args.graph.now c.in_ok-removal.removal.order.items) w ≡ true)) (sym c.inputs-inputs.ensures.inputs) (inputs-made c.args.graph.now c.in_ok-removal.removal.order.items)
+    subst (All (λ w. is_among (live_behind c.args.graph.now c.in_ok-removal.removal.order.items) w ≡ true)) (sym c.inputs-inputs.ensures.inputs)
+    (inputs-made c.args.graph.now c.in_ok-removal.removal.order.items)
 
 pub make_all_live-requires-then-j-len-clause-wires : goal.make_all_live-requires-then-j-len-clause-wires
 make_all_live-requires-then-j-len-clause-wires c =
@@ -44,7 +45,9 @@ loop-j-preserved c =
           (record {
             removal = m.removal;
             inputs = λ i v h. m.stay v (c.loop-j.invariant.inputs i v h);
-            targets = targets-more g c.loop-j.removal.live.items n.live.items order n.order.items c.loop-j.j w.index.result.now e c.loop-j.invariant.targets (get-item order c.loop-j.j w.index.result.now (omega arith) w.index.ensures) w.edge.ensures m.stay m.live m.order;
+            targets =
+                targets-more g c.loop-j.removal.live.items n.live.items order n.order.items c.loop-j.j w.index.result.now e c.loop-j.invariant.targets
+                (get-item order c.loop-j.j w.index.result.now (omega arith) w.index.ensures) w.edge.ensures m.stay m.live m.order;
           })
       | else-j-len w ↦
           let t = w.if-j-len.false in
@@ -61,4 +64,5 @@ returns c =
     let r = c.loop-j.removal in
     let t = c.loop-j-test.false in
     let n = c.edge_count-j-end.ensures.count in
-    removal-end c.args.graph.now r.live.items r.waits.items r.order.items c.loop-j.j c.inputs-inputs.ensures.valid c.loop-j.invariant.removal c.loop-j.invariant.inputs c.loop-j.invariant.targets (omega arith)
+    removal-end c.args.graph.now r.live.items r.waits.items r.order.items c.loop-j.j c.inputs-inputs.ensures.valid c.loop-j.invariant.removal c.loop-j.invariant.inputs c.loop-j.invariant.targets
+    (omega arith)
