@@ -27,13 +27,16 @@ named_token _ = 0
 -- the line of a statement: where it begins, its keyword, its name, and its verdict with the place of the token that it names
 abbrev pub line_of : List ℕ → List Token → Verdict → List ℕ
 line_of text statement verdict =
-    report_line (place_of text (token_start statement 0)) (kind_text statement) (shown_name text statement) (Some verdict) (place_of text (token_start statement (named_token verdict)))
+    report_line (place_of text (token_start statement 0)) (kind_text statement) (shown_name text statement) (Some verdict)
+        (place_of text (token_start statement (named_token verdict)))
 
 -- the lines of some statements with their verdicts, in order
 abbrev pub lines_of : List ℕ → List Token → List Chunk → List Verdict → List ℕ
-lines_of text tokens (chunk ∷ chunks) (verdict ∷ verdicts) = line_of text (chunk_tokens tokens chunk) verdict ++ lines_of text tokens chunks verdicts
+lines_of text tokens (chunk ∷ chunks) (verdict ∷ verdicts) =
+    line_of text (chunk_tokens tokens chunk) verdict ++ lines_of text tokens chunks verdicts
 lines_of text tokens _ _ = []
 
 -- a line for each statement, and the total
 abbrev pub report_of : List ℕ → List Token → List Chunk → List Verdict → List ℕ
-report_of text tokens chunks verdicts = lines_of text tokens chunks verdicts ++ reply_text (Total (length verdicts) (count_by is_good verdicts))
+report_of text tokens chunks verdicts =
+    lines_of text tokens chunks verdicts ++ reply_text (Total (length verdicts) (count_by is_good verdicts))

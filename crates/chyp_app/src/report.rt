@@ -61,7 +61,8 @@ fn push_shown(
     at: Place,
 ) -> Result<(), NoMemory>
     requires page { page.old.faults ≡ 0 }
-    ensures line { OnOk result (page.new.bytes ≡ page.old.bytes ++ report_line start kind.now (option_copied name.entry) (option_copied verdict.entry) at) }
+    ensures line { OnOk result (page.new.bytes ≡ page.old.bytes
+        ++ report_line start kind.now (option_copied name.entry) (option_copied verdict.entry) at) }
     ensures page { OnOk result (page.new.faults ≡ 0) }
 {
     let line = Line {
@@ -117,7 +118,8 @@ pub fn good_count(verdicts: &[Verdict]) -> usize
 // Writes the total.
 fn push_total(page: &mut Page, verdicts: &[Verdict]) -> Result<(), NoMemory>
     requires page { page.old.faults ≡ 0 }
-    ensures { OnOk result (page.new.bytes ≡ page.old.bytes ++ reply_text (Reply.Total (length verdicts.now) (count_by is_good verdicts.now))) }
+    ensures { OnOk result (page.new.bytes ≡ page.old.bytes
+        ++ reply_text (Reply.Total (length verdicts.now) (count_by is_good verdicts.now))) }
 {
     let total = verdicts.len() as u64;
     let good = good_count(verdicts) as u64;

@@ -28,7 +28,14 @@ impl Model for MemSink {
 
     ghost Value = { SinkState };
 
-    ghost view = { λ s. record { held = s.bytes.items; room = s.room; piece = s.piece; failing = s.failing.items; calls = s.calls; faults = s.faults } };
+    ghost view = { λ s. record {
+      held = s.bytes.items;
+      room = s.room;
+      piece = s.piece;
+      failing = s.failing.items;
+      calls = s.calls;
+      faults = s.faults;
+    } };
 
     ghost invariant = { λ s. (length s.bytes.items + s.room ≤ vec_capacity s.bytes) × (0 < s.piece) };
 }
@@ -50,7 +57,8 @@ impl MemSink {
         failing: Vec<u64>,
     ) -> Result<MemSink, NoMemory>
         requires { 0 < piece }
-        ensures { IfOk result (λ sink. sink ≡ record { held = []; room = room; piece = piece; failing = failing.items; calls = 0; faults = 0 }) }
+        ensures { IfOk result (λ sink. sink
+            ≡ record { held = []; room = room; piece = piece; failing = failing.items; calls = 0; faults = 0 }) }
     {
         Ok(MemSink {
             bytes: Vec::with_capacity(alloc, room)?,
