@@ -72,7 +72,7 @@ deepest_stops e tokens at begins =
     let h = token_there tokens at LeftParenthesis begins in
     let x : NumberedToken = (at, h.0) in
     symbol-stops (atom 0) e (tokens_from tokens at) refl (λ y zs is. ap (λ z. answer (atom 0) (kind_of z)) (sym (head-is x y (tokens_from tokens (at + 1)) zs (sym h.2 ∙ is)))
-        ∙ ap (answer (atom 0)) h.3)
+    ∙ ap (answer (atom 0)) h.3)
 
 inner-expects-suc : (tokens : List Token) (at depth : ℕ) (e : Expected) → BeginsWithKind LeftParenthesis (tokens_from tokens at) →
     verdict (next (atom (suc depth)) e) (tokens_from tokens at) ≡ verdict (term_then depth (next (token RightParenthesis) e)) (tokens_from tokens (at + 1))
@@ -80,7 +80,7 @@ inner-expects-suc tokens at depth e begins =
     let h = token_there tokens at LeftParenthesis begins in
     ap (verdict (next (atom (suc depth)) e)) h.2
     ∙ symbol-takes (atom (suc depth)) (atom depth ∷ tail (atoms_left depth) ∷ tail (pars_left depth) ∷ token RightParenthesis ∷ []) e (at, h.0) (tokens_from tokens (at + 1))
-        (ap (answer (atom (suc depth))) h.3)
+    (ap (answer (atom (suc depth))) h.3)
 
 pub inner_expects : (tokens : List Token) (at depth : ℕ) (e : Expected) → 0 < depth → BeginsWithKind LeftParenthesis (tokens_from tokens at) →
     verdict (next (atom depth) e) (tokens_from tokens at) ≡ verdict (term_then (depth - 1) (next (token RightParenthesis) e)) (tokens_from tokens (at + 1))

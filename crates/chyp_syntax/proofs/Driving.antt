@@ -56,7 +56,7 @@ mutual
       symbol-takes (atom (suc depth)) (atom depth ∷ tail (atoms_left depth) ∷ tail (pars_left depth) ∷ token RightParenthesis ∷ []) e x ((zs ++ y ∷ []) ++ rest) (ap (answer (atom (suc depth))) open')
       ∙ ap (verdict (term_then depth (next (token RightParenthesis) e))) (append_assoc zs (y ∷ []) rest)
       ∙ term-drive is (y ∷ rest) (next (token RightParenthesis) e) (other RightParenthesis LeftBracket y rest close (λ c. cc)) (other RightParenthesis Star y rest close (λ c. cc))
-          (other RightParenthesis Semicolon y rest close (λ c. cc))
+      (other RightParenthesis Semicolon y rest close (λ c. cc))
       ∙ token-takes RightParenthesis e y rest close
 
   pub atoms-drive : {depth : ℕ} {xs : List NumberedToken} {ts : List TermTree} → AreAtoms depth xs ts → (rest : List NumberedToken) (e : Expected) → Not LeftBracket rest → Not Star rest →
@@ -178,7 +178,7 @@ steps-to-goal x xs is = verdict-step steps goal x xs (ap (λ b. if b then Some g
 goal-to-reason : (x : NumberedToken) (xs : List NumberedToken) → kind_of x ≡ QuestionMark → verdict goal (x ∷ xs) ≡ verdict (next (tail reason_left) nothing) xs
 goal-to-reason x xs is =
     verdict-step goal (next (tail reason_left) nothing) x xs
-        (ap (λ b. if b then Some (next (tail reason_left) nothing) else proceed (answer (atom most_nested) (kind_of x)) None goal_more) (same-self (kind_of x) QuestionMark is))
+    (ap (λ b. if b then Some (next (tail reason_left) nothing) else proceed (answer (atom most_nested) (kind_of x)) None goal_more) (same-self (kind_of x) QuestionMark is))
 
 reason-drive-end : {xs : List NumberedToken} {t : ReasonAst} → IsReason xs t → verdict (next (tail reason_left) nothing) xs ≡ accepted
 reason-drive-end {xs} is = ap (verdict (next (tail reason_left) nothing)) (sym (append-nil xs)) ∙ reason-drive is [] nothing (λ k. k) ∙ verdict-done nothing refl

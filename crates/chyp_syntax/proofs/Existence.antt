@@ -143,13 +143,13 @@ par-tree : (depth : ℕ) → ((d : ℕ) → depth ≡ suc d → Inner d) → (xs
     × IsPar depth xs u
 par-tree depth inner xs is =
     let w = parts_tree (IsAtom depth) (λ zs ts _. AreAtoms depth zs ts) (atom depth ∷ []) (atoms_left depth) (λ _. []) (atoms_one depth) (atoms_more depth) refl (atom-tree depth inner) (length xs) xs
-        (omega arith) is in
+    (omega arith) is in
     (tensor_of w.0, tensor w.2)
 
 term-step : (depth : ℕ) → ((d : ℕ) → depth ≡ suc d → Inner d) → Inner depth
 term-step depth inner xs is =
     let w = parts_tree (IsPar depth) (ArePars depth) (atom depth ∷ tail (atoms_left depth) ∷ []) (pars_left depth) (λ n. n ∷ []) (pars_one depth) (pars_more depth) refl (par-tree depth inner)
-        (length xs) xs (omega arith) is in
+    (length xs) xs (omega arith) is in
     (chain_of w.0 w.1, composite w.2)
 
 no-less : (d : ℕ) → zero ≡ suc d → ⊥

@@ -63,7 +63,7 @@ cannot-go-on tokens k is lt p =
     let more : take (k + 1) tokens ++ rest ≡ take k tokens ++ t ∷ rest = ap (λ zs. zs ++ rest) (take_more tokens k d lt) ∙ append_assoc (take k tokens) (t ∷ []) rest in
     let all : numbered (take (k + 1) tokens ++ rest) ≡ h.front ++ y ∷ enumerate_from (k + 1) rest =
     ap numbered more ∙ enumerate-append 0 (take k tokens) (t ∷ rest) ∙ ap (λ n. numbered (take k tokens) ++ enumerate_from n (t ∷ rest)) number
-        ∙ ap (λ zs. zs ++ y ∷ enumerate_from (k + 1) rest) (sym front) in
+    ∙ ap (λ zs. zs ++ y ∷ enumerate_from (k + 1) rest) (sym front) in
     never_accepted statement (numbered tokens) ys y h (enumerate_from (k + 1) rest) (ap (verdict statement) (sym all) ∙ statement-drive p.2.statement)
 
 pub fails_at : (tokens : List Token) (k : ℕ) → k ≤ length tokens → verdict statement (numbered tokens) ≡ stopped (tokens_from tokens k) → FailsAt tokens k

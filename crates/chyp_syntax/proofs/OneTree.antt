@@ -177,7 +177,7 @@ same-reading WordGen ys t u p q =
     let third : p.2 ≡ q.2 = cc in
     let fifth : p.4 ≡ q.4 = cc in
     p.6 ∙ ap (λ (z : NumberedToken). generator z.0 (value_of p.2) (value_of p.4)) first ∙ ap (λ z. generator q.0.0 (value_of z) (value_of p.4)) third
-        ∙ ap (λ z. generator q.0.0 (value_of q.2) (value_of z)) fifth ∙ sym q.6
+    ∙ ap (λ z. generator q.0.0 (value_of q.2) (value_of z)) fifth ∙ sym q.6
 same-reading WordLet ys t u p q =
     let h0 = heads p.0 q.0 (p.1 ∷ p.2) (q.1 ∷ q.2) (sym p.4 ∙ q.4) in
     let h1 = heads p.1 q.1 p.2 q.2 h0.1 in
@@ -187,11 +187,11 @@ same-reading WordRule ys t u p q =
     let h0 = heads p.0 q.0 (p.1 ∷ (p.2 ++ p.3 ∷ p.4)) (q.1 ∷ (q.2 ++ q.3 ∷ q.4)) (sym p.7 ∙ q.7) in
     let h1 = heads p.1 q.1 (p.2 ++ p.3 ∷ p.4) (q.2 ++ q.3 ∷ q.4) h0.1 in
     let left = term-one-way most_nested p.2 q.2 (p.3 ∷ p.4) (q.3 ∷ q.4) p.5 q.5 p.8 q.8 (ends-kind Equals p.3 p.4 p.9 (λ c. cc) (λ c. cc) (λ c. cc))
-        (ends-kind Equals q.3 q.4 q.9 (λ c. cc) (λ c. cc) (λ c. cc)) h1.1 in
+    (ends-kind Equals q.3 q.4 q.9 (λ c. cc) (λ c. cc) (λ c. cc)) h1.1 in
     let h2 = heads p.3 q.3 p.4 q.4 left.1 in
     let right = term-to-end p.4 q.4 p.6 q.6 p.10 q.10 h2.1 in
     p.11 ∙ ap (λ (z : NumberedToken). rule z.0 p.5 p.3.0 p.6) h0.0 ∙ ap (λ v. rule q.0.0 v p.3.0 p.6) left.0 ∙ ap (λ (z : NumberedToken). rule q.0.0 q.5 z.0 p.6) h2.0 ∙ ap (rule q.0.0 q.5 q.3.0) right
-        ∙ sym q.11
+    ∙ sym q.11
 same-reading WordRewrite ys t u p q =
     let h0 = heads p.0 q.0 (p.1 ∷ (p.2 ++ p.3)) (q.1 ∷ (q.2 ++ q.3)) (sym p.6 ∙ q.6) in
     let h1 = heads p.1 q.1 (p.2 ++ p.3) (q.2 ++ q.3) h0.1 in

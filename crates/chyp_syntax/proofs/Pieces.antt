@@ -92,7 +92,7 @@ pub reason_simp : (tokens : List Token) (at : ℕ) (e : Expected) → BeginsWith
 reason_simp tokens at e begins =
     let h = token_there tokens at WordSimp begins in
     ap (verdict (next reason e)) h.2
-        ∙ symbol-takes reason (token LeftParenthesis ∷ signed ∷ tail signed_left ∷ token RightParenthesis ∷ []) e (at, h.0) (tokens_from tokens (at + 1)) (ap (answer reason) h.3)
+    ∙ symbol-takes reason (token LeftParenthesis ∷ signed ∷ tail signed_left ∷ token RightParenthesis ∷ []) e (at, h.0) (tokens_from tokens (at + 1)) (ap (answer reason) h.3)
 
 pub is_plain : (xs : List NumberedToken) → BeginsWith IsReason xs xs Plain
 is_plain xs = record { front = []; joined = refl; is = none }
@@ -135,7 +135,7 @@ is_simp_reason tokens at end trees by simp' open' are close =
 -- what is expected behind `by simp`
 pub simp_expects : (tokens : List Token) (at : ℕ) (e : Expected) → BeginsWithKind WordBy (tokens_from tokens at) → BeginsWithKind WordSimp (tokens_from tokens (at + 1)) →
     verdict (next (tail reason_left) e) (tokens_from tokens at)
-        ≡ verdict (next (token LeftParenthesis) (next signed (next (tail signed_left) (next (token RightParenthesis) e)))) (tokens_from tokens (at + 2))
+    ≡ verdict (next (token LeftParenthesis) (next signed (next (tail signed_left) (next (token RightParenthesis) e)))) (tokens_from tokens (at + 2))
 simp_expects tokens at e by simp' =
     tail_passes tokens at reason_left e by ∙ reason_simp tokens (at + 1) e simp'
     ∙ ap (verdict (next (token LeftParenthesis) (next signed (next (tail signed_left) (next (token RightParenthesis) e))))) (from-two tokens at)
@@ -171,7 +171,7 @@ unfolding verdict
 goal_term [] f = refl
 goal_term (x ∷ xs) f =
     ap (λ b. go_on (if b then Some (next (tail reason_left) nothing) else proceed (answer (atom most_nested) (kind_of x)) None goal_more) (λ e'. verdict e' xs) (stopped (x ∷ xs)))
-        (same-other (kind_of x) QuestionMark f)
+    (same-other (kind_of x) QuestionMark f)
     ∙ ap (λ o. go_on o (λ e'. verdict e' xs) (stopped (x ∷ xs))) (atom-decides most_nested (kind_of x) (step goal_more (kind_of x)) goal_more)
 
 -- ---- the end

@@ -58,10 +58,12 @@ step-tree x xs is before at =
     let short : length r.back ≤ length xs = omega (arith, ap length h.joined, length-append h.front h.back, ap length r.joined, length-append r.front r.back) in
     let rest = before r.back short r.back_is in
     let tree : StepTree = record { equals = x.0; goal = Some term.0; reason = why.0 } in
-    let joined : xs ≡ (h.front ++ r.front) ++ r.back = h.joined ∙ ap (λ zs. h.front ++ zs) r.joined ∙ sym (append_assoc h.front r.front r.back) in
-    (tree ∷ rest.0, subst (λ zs. AreSteps (x ∷ zs) (tree ∷ rest.0)) (sym joined)
-        (more_steps {tokens = x ∷ (h.front ++ r.front)} {rest = r.back} {tree = tree} {trees =
-        rest.0} (to_term {equals = x} {term = h.front} {by = r.front} {tree = term.0} {reason = why.0} is term.1 why.1) rest.1))
+    let joined : xs ≡ (h.front ++ r.front) ++ r.back = h.joined ∙ ap (λ zs. h.front ++ zs) r.joined ∙ sym (append_assoc h.front r.front r.back) in (
+      tree ∷ rest.0,
+      subst (λ zs. AreSteps (x ∷ zs) (tree ∷ rest.0)) (sym joined)
+          (more_steps {tokens = x ∷ (h.front ++ r.front)} {rest = r.back} {tree = tree} {trees =
+          rest.0} (to_term {equals = x} {term = h.front} {by = r.front} {tree = term.0} {reason = why.0} is term.1 why.1) rest.1),
+    )
 
 steps-from : (x : NumberedToken) (xs : List NumberedToken) → kind_of x ≡ Equals → ((zs : List NumberedToken) → length zs ≤ length xs → verdict steps zs ≡ accepted → StepTrees zs) → Goal xs
     → StepTrees (x ∷ xs)
@@ -148,9 +150,10 @@ statement-cases WordImport x xs e is same at =
           (inclusion a.0.0 None, subst (λ zs. IsStatement (x ∷ zs) (inclusion a.0.0 None)) (sym joined) (is_import {word = x} {name = a.0} is a.3))
       | inr w ↦
           let b = one_token Ident nothing w.1 w.4 in
-          let joined : xs ≡ a.0 ∷ w.0 ∷ b.0 ∷ [] = a.2 ∙ ap (λ zs. a.0 ∷ zs) (w.2 ∙ ap (λ zs. w.0 ∷ zs) (b.2 ∙ ap (λ zs. b.0 ∷ zs) (no_token b.1 b.4))) in
-          (inclusion a.0.0 (Some b.0.0),
-              subst (λ zs. IsStatement (x ∷ zs) (inclusion a.0.0 (Some b.0.0))) (sym joined) (is_import_as {word = x} {name = a.0} {as' = w.0} {prefix = b.0} is a.3 w.3 b.3))
+          let joined : xs ≡ a.0 ∷ w.0 ∷ b.0 ∷ [] = a.2 ∙ ap (λ zs. a.0 ∷ zs) (w.2 ∙ ap (λ zs. w.0 ∷ zs) (b.2 ∙ ap (λ zs. b.0 ∷ zs) (no_token b.1 b.4))) in (
+            inclusion a.0.0 (Some b.0.0),
+            subst (λ zs. IsStatement (x ∷ zs) (inclusion a.0.0 (Some b.0.0))) (sym joined) (is_import_as {word = x} {name = a.0} {as' = w.0} {prefix = b.0} is a.3 w.3 b.3),
+          )
     ]
 statement-cases WordShow x xs e is same at =
     let a = one_name nothing xs (moved (next name nothing) e xs same at) in

@@ -15,7 +15,7 @@ pub data AreNumbers : List NumberedToken → List ℕ → Type 0 where
   one_number : {number : NumberedToken} → kind_of number ≡ Number → AreNumbers (number ∷ []) (value_of number ∷ [])
   more_numbers : {number comma : NumberedToken} {rest : List NumberedToken} {values : List ℕ} →
       kind_of number ≡ Number → kind_of comma ≡ Comma → AreNumbers rest values
-          → AreNumbers (number ∷ comma ∷ rest) (value_of number ∷ values)
+      → AreNumbers (number ∷ comma ∷ rest) (value_of number ∷ values)
 
 -- "sw" [ "[" Number { "," Number } "]" ]
 pub data IsSwap : List NumberedToken → TermTree → Type 0 where
@@ -33,7 +33,7 @@ mutual
     a_swap : {depth : ℕ} {tokens : List NumberedToken} {tree : TermTree} → IsSwap tokens tree → IsAtom depth tokens tree
     in_parentheses : {depth : ℕ} {open' : NumberedToken} (close : NumberedToken) {inner : List NumberedToken} {tree : TermTree} →
         kind_of open' ≡ LeftParenthesis → IsTerm depth inner tree → kind_of close ≡ RightParenthesis
-            → IsAtom (suc depth) (open' ∷ (inner ++ close ∷ [])) tree
+        → IsAtom (suc depth) (open' ∷ (inner ++ close ∷ [])) tree
 
   -- atom { "*" atom }, with the trees of its parts
   pub data AreAtoms : (depth : ℕ) → List NumberedToken → List TermTree → Type 0 where
@@ -77,7 +77,7 @@ pub data IsReason : List NumberedToken → ReasonAst → Type 0 where
       → IsReason (word ∷ tokens) (Rule tree)
   by_simp : {word simp' open' : NumberedToken} (close : NumberedToken) {tokens : List NumberedToken} {trees : List SignedAst} →
       kind_of word ≡ WordBy → kind_of simp' ≡ WordSimp → kind_of open' ≡ LeftParenthesis → AreSigned tokens trees
-          → kind_of close ≡ RightParenthesis →
+      → kind_of close ≡ RightParenthesis →
       IsReason (word ∷ simp' ∷ open' ∷ (tokens ++ close ∷ [])) (Simp trees)
 
 -- the parentheses of a sentence's terms nest at most this deep
@@ -108,7 +108,7 @@ pub data IsStatement : List NumberedToken → StatementTree → Type 0 where
   -- "gen" Ident ":" Number "->" Number
   is_gen : {word name colon dom arrow cod : NumberedToken} →
       kind_of word ≡ WordGen → kind_of name ≡ Ident → kind_of colon ≡ Colon → kind_of dom ≡ Number → kind_of arrow ≡ Arrow
-          → kind_of cod ≡ Number →
+      → kind_of cod ≡ Number →
       IsStatement (word ∷ name ∷ colon ∷ dom ∷ arrow ∷ cod ∷ []) (generator name.0 (value_of dom) (value_of cod))
   -- "let" Ident "=" term
   is_let : {word name equals : NumberedToken} {term : List NumberedToken} {tree : TermTree} →
@@ -117,7 +117,7 @@ pub data IsStatement : List NumberedToken → StatementTree → Type 0 where
   -- "rule" Ident ":" term "=" term
   is_rule : {word name colon : NumberedToken} (equals : NumberedToken) {left right : List NumberedToken} {first second : TermTree} →
       kind_of word ≡ WordRule → kind_of name ≡ Ident → kind_of colon ≡ Colon → IsTerm most_nested left first → kind_of equals ≡ Equals
-          → IsTerm most_nested right second →
+      → IsTerm most_nested right second →
       IsStatement (word ∷ name ∷ colon ∷ (left ++ equals ∷ right)) (rule name.0 first equals.0 second)
   -- "rewrite" Ident ":" term { "=" term [by] } [ "=" "?" [by] ]
   is_rewrite : {word name colon : NumberedToken} {term rest : List NumberedToken} {first : TermTree} {steps : List StepTree} →
@@ -129,7 +129,7 @@ pub data IsStatement : List NumberedToken → StatementTree → Type 0 where
   -- "import" Ident "as" Ident
   is_import_as : {word name as' prefix : NumberedToken} →
       kind_of word ≡ WordImport → kind_of name ≡ Ident → kind_of as' ≡ WordAs → kind_of prefix ≡ Ident
-          → IsStatement (word ∷ name ∷ as' ∷ prefix ∷ []) (inclusion name.0 (Some prefix.0))
+      → IsStatement (word ∷ name ∷ as' ∷ prefix ∷ []) (inclusion name.0 (Some prefix.0))
   -- "show" name
   is_show : {word name : NumberedToken} → kind_of word ≡ WordShow → IsName name → IsStatement (word ∷ name ∷ []) (showing name.0)
 

@@ -21,5 +21,5 @@ returns-in-Some-clause-value c =
 pub returns-in_default-clause-next : goal.returns-in_default-clause-next
 returns-in_default-clause-next c =
     next-is_other c.args.text.now (sym c.is_blank.ensures ∙ c.if-is_blank.false) c.if-first-eq35.false (sym c.is_ascii_digit.ensures.value ∙ c.if-is_ascii_digit.false) (sym c.symbol.ensures
-        ∙ c.in_default.is)
+    ∙ c.in_default.is)
     ∙ c.name_or_bad.ensures.next

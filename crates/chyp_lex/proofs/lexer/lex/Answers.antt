@@ -11,7 +11,7 @@ pub overflow_cast-lexeme : goal.overflow_cast-lexeme
 overflow_cast-lexeme c =
     let is = rw take_rest at c.next_lexeme-lexeme.ensures.next in
     let within = next-is_within (drop c.loop-at.at c.args.first.now) c.next_lexeme-lexeme.result.len c.next_lexeme-lexeme.result.kind
-        (some-left c.args.first.now c.loop-at.at c.loop-at-test.true) is in
+    (some-left c.args.first.now c.loop-at.at c.loop-at-test.true) is in
     let cut = length-drop c.loop-at.at c.args.first.now in
     let length = c.requires.length in
     omega (arith, within.1)
@@ -20,7 +20,7 @@ pub overflow_add-at : goal.overflow_add-at
 overflow_add-at c =
     let is = rw take_rest at c.next_lexeme-lexeme.ensures.next in
     let within = next-is_within (drop c.loop-at.at c.args.first.now) c.next_lexeme-lexeme.result.len c.next_lexeme-lexeme.result.kind
-        (some-left c.args.first.now c.loop-at.at c.loop-at-test.true) is in
+    (some-left c.args.first.now c.loop-at.at c.loop-at-test.true) is in
     let cut = length-drop c.loop-at.at c.args.first.now in
     let length = c.requires.length in
     omega (arith, within.1)
@@ -29,7 +29,7 @@ pub loop-at-smaller : goal.loop-at-smaller
 loop-at-smaller c =
     let is = rw take_rest at c.next_lexeme-lexeme.ensures.next in
     let within = next-is_within (drop c.loop-at.at c.args.first.now) c.next_lexeme-lexeme.result.len c.next_lexeme-lexeme.result.kind
-        (some-left c.args.first.now c.loop-at.at c.loop-at-test.true) is in
+    (some-left c.args.first.now c.loop-at.at c.loop-at-test.true) is in
     let cut = length-drop c.loop-at.at c.args.first.now in
     omega (arith, within.0, within.1)
 
@@ -37,7 +37,7 @@ pub loop-at-preserved : goal.loop-at-preserved
 loop-at-preserved c =
     let is = rw take_rest at c.next_lexeme-lexeme.ensures.next in
     let within = next-is_within (drop c.loop-at.at c.args.first.now) c.next_lexeme-lexeme.result.len c.next_lexeme-lexeme.result.kind
-        (some-left c.args.first.now c.loop-at.at c.loop-at-test.true) is in
+    (some-left c.args.first.now c.loop-at.at c.loop-at-test.true) is in
     let cut = length-drop c.loop-at.at c.args.first.now in
     record {
       within = omega (arith, within.0, within.1);
@@ -47,11 +47,11 @@ loop-at-preserved c =
             let token_is = ap (λ (v : ℕ). let token : Token = record { kind = w.in-Some.kind; start = c.loop-at.at; len = c.next_lexeme-lexeme.result.len; value = v } in token) value in
             let pushed : Continues c.args.first.now (c.loop-at.at + c.next_lexeme-lexeme.result.len) w.push.new.self.items =
             rw w.in_ok-push.ensures.items (Continues-read c.args.first.now c.loop-at.at c.next_lexeme-lexeme.result.len w.in-Some.kind c.loop-at.tokens.items _ c.loop-at-test.true
-                (rw w.in-Some.is at is) token_is c.loop-at.invariant.tokens) in
+            (rw w.in-Some.is at is) token_is c.loop-at.invariant.tokens) in
             rw w.tokens-is pushed
         | in_default w ↦
             let passed = Continues-passed c.args.first.now c.loop-at.at c.next_lexeme-lexeme.result.len c.loop-at.tokens.items c.loop-at-test.true
-                (rw w.in_default.is at is) c.loop-at.invariant.tokens in
+            (rw w.in_default.is at is) c.loop-at.invariant.tokens in
             rw w.tokens-is passed
       ];
     }

@@ -7,7 +7,7 @@ pub returns-then-more-eq0-clause-next : goal.returns-then-more-eq0-clause-next
 returns-then-more-eq0-clause-next c =
     let more = rw take_rest at c.members_len-more.ensures.value in
     rw (c.token-then-more-eq0.ensures, c.kind_of_word.ensures)
-        (next-is_word c.args.text.now c.identifier_len-len.result c.identifier_len-len.ensures.value c.if-len-eq0.false (sym more ∙ c.if-more-eq0.true))
+    (next-is_word c.args.text.now c.identifier_len-len.result c.identifier_len-len.ensures.value c.if-len-eq0.false (sym more ∙ c.if-more-eq0.true))
 
 pub returns-clause-next : goal.returns-clause-next
 returns-clause-next c =

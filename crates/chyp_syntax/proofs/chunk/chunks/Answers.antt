@@ -72,5 +72,5 @@ returns-clause-within c =
     let tokens = c.args.tokens.now in
     let front : length (take c.loop-at.at tokens) ≡ length tokens = length-take-le c.loop-at.at tokens (omega arith) ∙ (let e : c.loop-at.at ≡ length tokens = omega arith in e) in
     subst (λ n. (k : ℕ) (d : Chunk) → k < length c.loop-at.chunks.items
-        → (get_or c.loop-at.chunks.items k d).first + (get_or c.loop-at.chunks.items k d).count ≤ n) front
-        (Tile-within 0 (length (take c.loop-at.at tokens)) c.loop-at.chunks.items c.loop-at.invariant.tile)
+    → (get_or c.loop-at.chunks.items k d).first + (get_or c.loop-at.chunks.items k d).count ≤ n) front
+    (Tile-within 0 (length (take c.loop-at.at tokens)) c.loop-at.chunks.items c.loop-at.invariant.tile)

@@ -23,10 +23,12 @@ returns-in_err-expect_end-clause-stops c k is =
     let p = err_from_is_err_and c.from_residual-in_err-expect_end.result c.from_residual-in_err-expect_end.ensures.1 in
     let why : c.in_err-expect_end.field-0.0 ≡ Syntax k = cc (p.1, p.2) in
     let stops = c.in_err-expect_end.ensures.stops k (ap Err why) in
-    let there = more_than_nothing c.args.tokens.now 2 k stops.0 stops.1 in
-    (there.0, word_expects c.args.tokens.now WordImport (next (token Ident) (next (tail prefix_left) nothing)) refl c.requires.begins
-        ∙ token_passes c.args.tokens.now 1 Ident (next (tail prefix_left) nothing) c.in_ok-expect.ensures.there
-        ∙ tail_skips prefix_left nothing (tokens_from c.args.tokens.now 2) (λ begins. both_ways c.is_kind.result c.if-not-is_kind.true (c.is_kind.ensures.1 begins)) ∙ there.1)
+    let there = more_than_nothing c.args.tokens.now 2 k stops.0 stops.1 in (
+      there.0,
+      word_expects c.args.tokens.now WordImport (next (token Ident) (next (tail prefix_left) nothing)) refl c.requires.begins
+          ∙ token_passes c.args.tokens.now 1 Ident (next (tail prefix_left) nothing) c.in_ok-expect.ensures.there
+          ∙ tail_skips prefix_left nothing (tokens_from c.args.tokens.now 2) (λ begins. both_ways c.is_kind.result c.if-not-is_kind.true (c.is_kind.ensures.1 begins)) ∙ there.1,
+    )
 
 pub returns-then-not-is_kind-clause-tree : goal.returns-then-not-is_kind-clause-tree
 returns-then-not-is_kind-clause-tree c = import_there c.args.tokens.now c.requires.begins c.in_ok-expect.ensures.there c.in_ok-expect_end.ensures.there
@@ -38,20 +40,24 @@ pub returns-in_err-expect-2-clause-stops : goal.returns-in_err-expect-2-clause-s
 returns-in_err-expect-2-clause-stops c k is =
     let p = err_from_is_err_and c.from_residual-in_err-expect-2.result c.from_residual-in_err-expect-2.ensures.1 in
     let why : c.in_err-expect-2.field-0.0 ≡ Syntax k = cc (p.1, p.2) in
-    let stops = c.in_err-expect-2.ensures.stops k (ap Err why) in
-    (stops.0, word_expects c.args.tokens.now WordImport (next (token Ident) (next (tail prefix_left) nothing)) refl c.requires.begins
-        ∙ token_passes c.args.tokens.now 1 Ident (next (tail prefix_left) nothing) c.in_ok-expect.ensures.there
-        ∙ tail_passes c.args.tokens.now 2 prefix_left nothing (c.is_kind.ensures.0 c.if-not-is_kind.false) ∙ stops.1 (nothing))
+    let stops = c.in_err-expect-2.ensures.stops k (ap Err why) in (
+      stops.0,
+      word_expects c.args.tokens.now WordImport (next (token Ident) (next (tail prefix_left) nothing)) refl c.requires.begins
+          ∙ token_passes c.args.tokens.now 1 Ident (next (tail prefix_left) nothing) c.in_ok-expect.ensures.there
+          ∙ tail_passes c.args.tokens.now 2 prefix_left nothing (c.is_kind.ensures.0 c.if-not-is_kind.false) ∙ stops.1 (nothing),
+    )
 
 pub returns-in_err-expect_end-2-clause-stops : goal.returns-in_err-expect_end-2-clause-stops
 returns-in_err-expect_end-2-clause-stops c k is =
     let p = err_from_is_err_and c.from_residual-in_err-expect_end-2.result c.from_residual-in_err-expect_end-2.ensures.1 in
     let why : c.in_err-expect_end-2.field-0.0 ≡ Syntax k = cc (p.1, p.2) in
     let stops = c.in_err-expect_end-2.ensures.stops k (ap Err why) in
-    let there = more_than_nothing c.args.tokens.now 4 k stops.0 stops.1 in
-    (there.0, word_expects c.args.tokens.now WordImport (next (token Ident) (next (tail prefix_left) nothing)) refl c.requires.begins
-        ∙ token_passes c.args.tokens.now 1 Ident (next (tail prefix_left) nothing) c.in_ok-expect.ensures.there
-        ∙ tail_passes c.args.tokens.now 2 prefix_left nothing (c.is_kind.ensures.0 c.if-not-is_kind.false) ∙ token_passes c.args.tokens.now 3 Ident nothing c.in_ok-expect-2.ensures.there ∙ there.1)
+    let there = more_than_nothing c.args.tokens.now 4 k stops.0 stops.1 in (
+      there.0,
+      word_expects c.args.tokens.now WordImport (next (token Ident) (next (tail prefix_left) nothing)) refl c.requires.begins
+          ∙ token_passes c.args.tokens.now 1 Ident (next (tail prefix_left) nothing) c.in_ok-expect.ensures.there
+          ∙ tail_passes c.args.tokens.now 2 prefix_left nothing (c.is_kind.ensures.0 c.if-not-is_kind.false) ∙ token_passes c.args.tokens.now 3 Ident nothing c.in_ok-expect-2.ensures.there ∙ there.1,
+    )
 
 pub returns-clause-tree : goal.returns-clause-tree
 returns-clause-tree c = import_as_there c.args.tokens.now c.requires.begins c.in_ok-expect.ensures.there

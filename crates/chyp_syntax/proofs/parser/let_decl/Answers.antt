@@ -13,9 +13,11 @@ pub returns-in_err-expect-clause-stops : goal.returns-in_err-expect-clause-stops
 returns-in_err-expect-clause-stops c k is =
     let p = err_from_is_err_and c.from_residual.result c.from_residual.ensures.1 in
     let why : c.in_err-expect.field-0.0 ≡ Syntax k = cc (p.1, p.2) in
-    let stops = c.in_err-expect.ensures.stops k (ap Err why) in
-    (stops.0, word_expects c.args.tokens.now WordLet (next (token Ident) (next (token Equals) (term_then most_nested nothing))) refl c.requires.begins
-        ∙ stops.1 (next (token Equals) (term_then most_nested nothing)))
+    let stops = c.in_err-expect.ensures.stops k (ap Err why) in (
+      stops.0,
+      word_expects c.args.tokens.now WordLet (next (token Ident) (next (token Equals) (term_then most_nested nothing))) refl c.requires.begins
+          ∙ stops.1 (next (token Equals) (term_then most_nested nothing)),
+    )
 
 pub returns-in_err-expect-2-clause-stops : goal.returns-in_err-expect-2-clause-stops
 returns-in_err-expect-2-clause-stops c k is =
@@ -36,9 +38,11 @@ returns-in_err-expect_end-clause-stops c k is =
     let p = err_from_is_err_and c.from_residual-in_err-expect_end.result c.from_residual-in_err-expect_end.ensures.1 in
     let why : c.in_err-expect_end.field-0.0 ≡ Syntax k = cc (p.1, p.2) in
     let stops = c.in_err-expect_end.ensures.stops k (ap Err why) in
-    let there = more_than_nothing c.args.tokens.now c.in_ok-term.end k stops.0 stops.1 in
-    (there.0, signed_expects c.args.tokens.now WordLet Equals (term_then most_nested nothing) refl c.requires.begins c.in_ok-expect.ensures.there c.in_ok-expect-2.ensures.there
-        ∙ c.in_ok-term.ensures.passes nothing ∙ there.1)
+    let there = more_than_nothing c.args.tokens.now c.in_ok-term.end k stops.0 stops.1 in (
+      there.0,
+      signed_expects c.args.tokens.now WordLet Equals (term_then most_nested nothing) refl c.requires.begins c.in_ok-expect.ensures.there c.in_ok-expect-2.ensures.there
+          ∙ c.in_ok-term.ensures.passes nothing ∙ there.1,
+    )
 
 pub returns-clause-tree : goal.returns-clause-tree
 returns-clause-tree c =

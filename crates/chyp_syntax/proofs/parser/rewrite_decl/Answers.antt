@@ -13,9 +13,11 @@ pub returns-in_err-expect-clause-stops : goal.returns-in_err-expect-clause-stops
 returns-in_err-expect-clause-stops c k is =
     let p = err_from_is_err_and c.from_residual.result c.from_residual.ensures.1 in
     let why : c.in_err-expect.field-0.0 ≡ Syntax k = cc (p.1, p.2) in
-    let stops = c.in_err-expect.ensures.stops k (ap Err why) in
-    (stops.0, word_expects c.args.tokens.now WordRewrite (next (token Ident) (next (token Colon) (term_then most_nested steps))) refl c.requires.begins
-        ∙ stops.1 (next (token Colon) (term_then most_nested steps)))
+    let stops = c.in_err-expect.ensures.stops k (ap Err why) in (
+      stops.0,
+      word_expects c.args.tokens.now WordRewrite (next (token Ident) (next (token Colon) (term_then most_nested steps))) refl c.requires.begins
+          ∙ stops.1 (next (token Colon) (term_then most_nested steps)),
+    )
 
 pub returns-in_err-expect-2-clause-stops : goal.returns-in_err-expect-2-clause-stops
 returns-in_err-expect-2-clause-stops c k is =
@@ -35,12 +37,14 @@ pub returns-in_err-steps-clause-stops : goal.returns-in_err-steps-clause-stops
 returns-in_err-steps-clause-stops c k is =
     let p = err_from_is_err_and c.from_residual-in_err-steps.result c.from_residual-in_err-steps.ensures.1 in
     let why : c.in_err-steps.field-0.0 ≡ Syntax k = cc (p.1, p.2) in
-    let stops = c.in_err-steps.ensures.stops k (ap Err why) in
-    (stops.0, signed_expects c.args.tokens.now WordRewrite Colon (term_then most_nested steps) refl c.requires.begins c.in_ok-expect.ensures.there c.in_ok-expect-2.ensures.there
-        ∙ c.in_ok-first.ensures.passes steps ∙ stops.1)
+    let stops = c.in_err-steps.ensures.stops k (ap Err why) in (
+      stops.0,
+      signed_expects c.args.tokens.now WordRewrite Colon (term_then most_nested steps) refl c.requires.begins c.in_ok-expect.ensures.there c.in_ok-expect-2.ensures.there
+          ∙ c.in_ok-first.ensures.passes steps ∙ stops.1,
+    )
 
 pub returns-clause-tree : goal.returns-clause-tree
 returns-clause-tree c =
     let first : TermTree = tree_of c.in_ok-first.first in
     rewrite_there c.args.tokens.now c.in_ok-first.end first
-        (map step_of c.in_ok-steps.steps) c.requires.begins c.in_ok-expect.ensures.there c.in_ok-expect-2.ensures.there c.in_ok-first.ensures.read c.in_ok-steps.ensures.read
+    (map step_of c.in_ok-steps.steps) c.requires.begins c.in_ok-expect.ensures.there c.in_ok-expect-2.ensures.there c.in_ok-first.ensures.read c.in_ok-steps.ensures.read

@@ -24,6 +24,6 @@ returns-in_default-kind c =
             omega arith,
             no_statement_there (tokens_from tokens 0) (tokens_from tokens 1) (0, word) here
                 c.in_default-kind.not-WordGen c.in_default-kind.not-WordLet c.in_default-kind.not-WordRule c.in_default-kind.not-WordRewrite c.in_default-kind.not-WordImport
-                    c.in_default-kind.not-WordShow,
+                c.in_default-kind.not-WordShow,
           );
     }

@@ -56,7 +56,7 @@ returns-clause-passes c e =
     elim c.if-minus.branch [
       | then-minus w ↦
           signed_minus tokens c.args.at e (c.is_kind-minus.ensures.0 w.if-minus.true)
-              ∙ subst (λ n. verdict (next name e) (tokens_from tokens n) ≡ verdict e (tokens_from tokens (c.if-minus.spot + 1))) w.spot-is passes
+          ∙ subst (λ n. verdict (next name e) (tokens_from tokens n) ≡ verdict e (tokens_from tokens (c.if-minus.spot + 1))) w.spot-is passes
       | else-minus w ↦
           signed_unsigned e (tokens_from tokens c.args.at) (λ begins. both_ways c.is_kind-minus.result w.if-minus.false (c.is_kind-minus.ensures.1 begins))
           ∙ subst (λ n. verdict (next name e) (tokens_from tokens n) ≡ verdict e (tokens_from tokens (c.if-minus.spot + 1))) w.spot-is passes

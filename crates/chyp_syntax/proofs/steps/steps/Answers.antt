@@ -41,7 +41,7 @@ returns-in_err-step-clause-stops c k is =
       stops.0,
       c.loop-alloc.invariant.again
           ∙ step_expects c.args.tokens.now c.loop-alloc.at (c.is_kind.ensures.0 c.loop-alloc-test.true)
-              (λ begins. both_ways c.is_kind-in-loop-alloc.result c.if-is_kind.false (c.is_kind-in-loop-alloc.ensures.1 begins))
+          (λ begins. both_ways c.is_kind-in-loop-alloc.result c.if-is_kind.false (c.is_kind-in-loop-alloc.ensures.1 begins))
           ∙ stops.1 steps,
     )
 
@@ -76,4 +76,4 @@ returns-in_err-expect_end-clause-stops c k is =
 pub returns-clause-read : goal.returns-clause-read
 returns-clause-read c =
     steps_end (tokens_from c.args.tokens.now c.args.start) (tokens_from c.args.tokens.now c.loop-alloc.at)
-        (map step_of c.loop-alloc.steps) c.loop-alloc.invariant.so_far c.in_ok-expect_end.ensures.there
+    (map step_of c.loop-alloc.steps) c.loop-alloc.invariant.so_far c.in_ok-expect_end.ensures.there

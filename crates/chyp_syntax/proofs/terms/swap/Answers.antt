@@ -41,7 +41,7 @@ pub returns-clause-read : goal.returns-clause-read
 returns-clause-read c =
     rw (tree_of-Swap c.args.at (Some c.in_ok-numbers.numbers))
     (is_these_places c.args.tokens.now c.args.at c.in_ok-numbers.end c.in_ok-numbers.numbers c.requires.begins
-        (c.is_kind.ensures.0 c.if-not-is_kind.false) c.in_ok-numbers.ensures.read c.in_ok-expect.ensures.there)
+    (c.is_kind.ensures.0 c.if-not-is_kind.false) c.in_ok-numbers.ensures.read c.in_ok-expect.ensures.there)
 
 pub returns-clause-passes : goal.returns-clause-passes
 returns-clause-passes c e =
