@@ -18,6 +18,7 @@ use chyp_base::{NoMemory, Sorts};
 use chyp_syntax::{TermAst, text_at};
 use chyp_term::{Perm, Places, Term, copy};
 use std::alloc::Global;
+use std::rc::Rc;
 
 /// How the parts of a row are joined.
 #[derive(Clone, Copy, Debug, PartialEq, Eq)]
@@ -51,7 +52,7 @@ pub fn expand(
     match tree {
         TermAst::Named(token) => named(alloc, *token, chunk, env),
         TermAst::Wire => plain_permutation(alloc, plain, &[0]),
-        TermAst::Empty => Ok(no_wires(alloc)),
+        TermAst::Empty => no_wires(alloc),
         TermAst::Swap { places, .. } => match places {
             Some(places) => written(alloc, plain, places.as_slice()),
             None => plain_permutation(alloc, plain, &[1, 0]),
@@ -81,7 +82,7 @@ fn row(
         (map (λ part. expansion_in (meaning_at (site_of [] chunk.now env.now)) (tree_of part)) parts.now)) }
 {
     match parts {
-        [] => Ok(no_wires(alloc)),
+        [] => no_wires(alloc),
         [part] => expand(alloc, plain, part, chunk, env),
         _ => {
             let half = parts.len() / 2;
@@ -96,8 +97,8 @@ fn row(
 fn joined(alloc: Global, join: Join, first: Term, rest: Term) -> Result<Term, NoMemory>
     ensures { IfOk result (λ term. morphism_of term ≡ join_of join (morphism_of first) (morphism_of rest)) }
 {
-    let first = Box::new(alloc, first)?;
-    let rest = Box::new(alloc, rest)?;
+    let first = Rc::new(alloc, first)?;
+    let rest = Rc::new(alloc, rest)?;
     match join {
         Join::Then => Ok(Term::Seq(first, rest)),
         Join::Beside => Ok(Term::Par(first, rest)),
@@ -111,7 +112,7 @@ fn named(alloc: Global, token: u32, chunk: &ChunkView<'_>, env: &Env) -> Result<
 {
     match env.lookup(text_at(chunk.first, chunk.tokens, token)) {
         Some(entry) => meant(alloc, &entry.meaning),
-        None => Ok(no_wires(alloc)),
+        None => no_wires(alloc),
     }
 }
 
@@ -125,16 +126,16 @@ fn meant(alloc: Global, meaning: &Meaning) -> Result<Term, NoMemory>
             dom: shape.dom.share()?,
             cod: shape.cod.share()?,
         }),
-        Meaning::Abbrev(term) => copy(alloc, term),
-        Meaning::Law(_) | Meaning::Unproved | Meaning::Broken => Ok(no_wires(alloc)),
+        Meaning::Abbrev(term) => copy(term),
+        Meaning::Law(_) | Meaning::Unproved | Meaning::Broken => no_wires(alloc),
     }
 }
 
 // The empty diagram.
-fn no_wires(alloc: Global) -> Term
-    ensures { morphism_of result ≡ empty }
+fn no_wires(alloc: Global) -> Result<Term, NoMemory>
+    ensures { IfOk result (λ term. morphism_of term ≡ empty) }
 {
-    permutation(Sorts::from_vec(Vec::new(alloc)), Vec::new(alloc))
+    permutation(alloc, Sorts::from_vec(Vec::new(alloc)), Vec::new(alloc))
 }
 
 // The permutation of plain wires with these places.
@@ -144,7 +145,7 @@ fn plain_permutation(alloc: Global, plain: &PlainWires, places: &[u32]) -> Resul
     ensures { IfOk result (λ term. morphism_of term ≡ plain_permutation places.now) }
 {
     let sorts = plain.wires(alloc, places.len())?;
-    Ok(permutation(sorts, Vec::from_slice(alloc, places)?))
+    permutation(alloc, sorts, Vec::from_slice(alloc, places)?)
 }
 
 // The permutation of plain wires with the places that stand in the text.
@@ -156,19 +157,22 @@ fn written(alloc: Global, plain: &PlainWires, places: &[u64]) -> Result<Term, No
     match narrowed(alloc, places)? {
         Some(narrow) => {
             let sorts = plain.wires(alloc, narrow.len())?;
-            Ok(permutation(sorts, narrow))
+            permutation(alloc, sorts, narrow)
         }
         None => unreachable!(),
     }
 }
 
 // The permutation of these wires with these places.
-fn permutation(sorts: Sorts, places: Vec<u32>) -> Term
+fn permutation(alloc: Global, sorts: Sorts, places: Vec<u32>) -> Result<Term, NoMemory>
     requires { IsPermutation (length places.items) places.items }
-    ensures { morphism_of result ≡ a_permutation sorts places.items }
+    ensures { IfOk result (λ term. morphism_of term ≡ a_permutation sorts places.items) }
 {
     match Perm::new(Places::from_vec(places)) {
-        Some(perm) => Term::Perm { sorts, perm },
+        Some(perm) => Ok(Term::Perm {
+            sorts,
+            perm: Rc::new(alloc, perm)?,
+        }),
         None => unreachable!(),
     }
 }

@@ -9,6 +9,7 @@ use chyp_base::{Name, NoMemory, Sort, Sorts};
 use chyp_graph::Graph;
 use chyp_term::{Perm, Places, Term, shape_of, size};
 use std::alloc::Global;
+use std::rc::Rc;
 use std::test::Fail;
 
 /// No wires.
@@ -41,7 +42,7 @@ pub(crate) fn permuted(alloc: Global, places: &[u32]) -> Result<Perm, Fail>
 /// A permutation of so many wires, which it is typed for only where it has as many places.
 pub(crate) fn rewired(alloc: Global, count: u32, places: &[u32]) -> Result<Term, Fail> {
     let sorts = wires(alloc, count)?;
-    let perm = permuted(alloc, places)?;
+    let perm = Rc::new(alloc, permuted(alloc, places)?)?;
     Ok(Term::Perm { sorts, perm })
 }
 
@@ -83,11 +84,11 @@ fn join(alloc: Global, terms: &mut Vec<Term>, behind: bool) -> Result<(), Fail> 
     let Some(second) = terms.pop() else {
         return Err(Fail::new("no term to join"));
     };
-    let second = Box::new(alloc, second)?;
+    let second = Rc::new(alloc, second)?;
     let Some(first) = terms.pop() else {
         return Err(Fail::new("one term to join"));
     };
-    let first = Box::new(alloc, first)?;
+    let first = Rc::new(alloc, first)?;
     let joined = if behind {
         Term::Seq(first, second)
     } else {

@@ -10,6 +10,7 @@ use chyp_graph::{EdgeId, EdgeIds, EdgePart, EdgeParts, Graph, WireId, WireIds};
 use chyp_laws::graphs_decide_the_laws;
 use chyp_term::Term;
 use std::alloc::Global;
+use std::rc::Rc;
 use std::test::Fail;
 
 /// An edge by its name, its source and its target.
@@ -101,7 +102,7 @@ fn through(alloc: Global, name: &str) -> Result<Term, NoMemory>
 fn both(alloc: Global, first: Term, second: Term) -> Result<Term, NoMemory>
     ensures { IfOk result (λ term. morphism_of term ≡ beside (morphism_of first) (morphism_of second)) }
 {
-    Ok(Term::Par(Box::new(alloc, first)?, Box::new(alloc, second)?))
+    Ok(Term::Par(Rc::new(alloc, first)?, Rc::new(alloc, second)?))
 }
 
 /// Two wires that cross.
@@ -109,7 +110,7 @@ fn crossed(alloc: Global) -> Result<Term, Fail>
     ensures { IfOk result (λ term. morphism_of term ≡ permutation (plain ∷ plain ∷ []) (1 ∷ 0 ∷ [])) }
 {
     let sorts = two(alloc)?;
-    let perm = permuted(alloc, &[1, 0])?;
+    let perm = Rc::new(alloc, permuted(alloc, &[1, 0])?)?;
     Ok(Term::Perm { sorts, perm })
 }
 

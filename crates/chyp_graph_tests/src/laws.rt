@@ -9,6 +9,7 @@ use chyp_theory::{
     derivations_are_equations, types_are_decided, wires_are_decided, wires_are_permutations,
 };
 use std::alloc::Global;
+use std::rc::Rc;
 use std::test::Fail;
 
 /// The diagram without wires.
@@ -20,7 +21,7 @@ fn nothing(alloc: Global) -> Result<Term, Fail>
     };
     Ok(Term::Perm {
         sorts: none(alloc),
-        perm,
+        perm: Rc::new(alloc, perm)?,
     })
 }
 

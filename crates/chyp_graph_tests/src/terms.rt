@@ -92,10 +92,7 @@ fn a_term_that_is_not_typed_clashes(rt: HostRuntime) -> Result<(), Fail> {
     let alloc = rt.alloc();
     let term = term(alloc, "m m ;")?;
     assert!(rt; clashes(alloc, &term));
-    assert_eq!(rt;
-        written(alloc, &copy(alloc, &term)?)?,
-        written(alloc, &term)?
-    );
+    assert_eq!(rt; written(alloc, &copy(&term)?)?, written(alloc, &term)?);
     assert!(rt; clashes(alloc, &rewired(alloc, 3, &[1, 0])?));
     Ok(())
 }
@@ -108,7 +105,7 @@ fn written(alloc: Global, term: &Term) -> Result<String, Fail> {
 fn a_copy_is_equal_and_as_big(rt: HostRuntime) -> Result<(), Fail> {
     let alloc = rt.alloc();
     let term = term(alloc, TYPED)?;
-    let copied = copy(alloc, &term)?;
+    let copied = copy(&term)?;
     assert_eq!(rt; [size(&copied), depth(&copied), gens(&copied)], [12, 3, 1]);
     assert_eq!(rt; written(alloc, &copied)?, written(alloc, &term)?);
     Ok(())

@@ -60,8 +60,8 @@ fn ends(alloc: Global, terms: &[Term]) -> Result<Vec<Term>, NoMemory>
 {
     match terms {
         [] => Ok(Vec::new(alloc)),
-        [only] => Ok(vec![in alloc; copy(alloc, only)?]?),
-        [first, .., last] => Ok(vec![in alloc; copy(alloc, first)?, copy(alloc, last)?]?),
+        [only] => Ok(vec![in alloc; copy(only)?]?),
+        [first, .., last] => Ok(vec![in alloc; copy(first)?, copy(last)?]?),
     }
 }
 
@@ -99,7 +99,7 @@ fn generator(term: Term) -> Meaning
 }
 
 // The equation of the first and the last of some terms. A single term is copied, since it is both.
-fn equation(alloc: Global, mut terms: Vec<Term>) -> Result<Equation, NoMemory>
+fn equation(mut terms: Vec<Term>) -> Result<Equation, NoMemory>
     requires { 0 < length terms.items }
     ensures { IfOk result (λ equation. equation_of equation ≡ (first_of (morphisms_of terms.items), last_of (morphisms_of terms.items))) }
 {
@@ -108,17 +108,13 @@ fn equation(alloc: Global, mut terms: Vec<Term>) -> Result<Equation, NoMemory>
     };
     let left = match terms.into_iter().next() {
         Some(left) => left,
-        None => copy(alloc, &right)?,
+        None => copy(&right)?,
     };
     Ok(Equation { left, right })
 }
 
 // What an accepted statement with these terms stands for.
-fn accepted(
-    alloc: Global,
-    keyword: Option<TokenKind>,
-    terms: Vec<Term>,
-) -> Result<Meaning, NoMemory>
+fn accepted(keyword: Option<TokenKind>, terms: Vec<Term>) -> Result<Meaning, NoMemory>
     requires some { 0 < length terms.items }
     requires generator { keyword ≡ Some WordGen → IsGenerator (first_of (morphisms_of terms.items)) }
     ensures { IfOk result (λ meaning. sense_of meaning ≡ accepted_sense keyword (morphisms_of terms.items)) }
@@ -126,7 +122,7 @@ fn accepted(
     match keyword {
         Some(TokenKind::WordGen) => Ok(generator(first(terms))),
         Some(TokenKind::WordLet) => Ok(Meaning::Abbrev(first(terms))),
-        _ => Ok(Meaning::Law(equation(alloc, terms)?)),
+        _ => Ok(Meaning::Law(equation(terms)?)),
     }
 }
 
@@ -142,7 +138,6 @@ fn refused(keyword: Option<TokenKind>) -> Meaning
 
 // What a statement with these terms stands for.
 fn meaning(
-    alloc: Global,
     keyword: Option<TokenKind>,
     terms: Vec<Term>,
     verdict: &Verdict,
@@ -151,8 +146,8 @@ fn meaning(
     ensures { IfOk result (λ meaning. sense_of meaning ≡ sense_for keyword (morphisms_of terms.items) verdict.now) }
 {
     match verdict {
-        Verdict::Accepted => accepted(alloc, keyword, terms),
-        Verdict::Proved => Ok(Meaning::Law(equation(alloc, terms)?)),
+        Verdict::Accepted => accepted(keyword, terms),
+        Verdict::Proved => Ok(Meaning::Law(equation(terms)?)),
         _ => Ok(refused(keyword)),
     }
 }
@@ -239,7 +234,7 @@ pub fn bind(
     };
     let alloc = env.allocator();
     let terms = needed(alloc, terms(body), verdict)?;
-    let meaning = meaning(alloc, keyword(chunk.tokens), terms, verdict)?;
+    let meaning = meaning(keyword(chunk.tokens), terms, verdict)?;
     bind_name(env, module, index, name, meaning)
 }
 
@@ -268,6 +263,6 @@ pub fn bind_owned(
     };
     let alloc = env.allocator();
     let terms = into_terms(alloc, body);
-    let meaning = meaning(alloc, keyword(chunk.tokens), terms, verdict)?;
+    let meaning = meaning(keyword(chunk.tokens), terms, verdict)?;
     bind_name(env, module, index, name, meaning)
 }

@@ -16,12 +16,7 @@ use chyp_term::{Equation, Equations, Step, StepList, copy};
 use std::alloc::Global;
 
 // The equation of a rule, with its sides exchanged behind a `-`.
-fn equation(
-    alloc: Global,
-    rule: SignedAst,
-    chunk: &ChunkView<'_>,
-    env: &Env,
-) -> Result<Equation, NoMemory>
+fn equation(rule: SignedAst, chunk: &ChunkView<'_>, env: &Env) -> Result<Equation, NoMemory>
     requires lent { IsLent chunk.now }
     requires law { IsLawAt (site_of [] chunk.now env.now) rule.name }
     ensures { IfOk result (λ equation. equation_of equation ≡ equation_at (site_of [] chunk.now env.now) rule) }
@@ -32,8 +27,8 @@ fn equation(
     let Meaning::Law(law) = &entry.meaning else {
         unreachable!()
     };
-    let left = copy(alloc, &law.left)?;
-    let right = copy(alloc, &law.right)?;
+    let left = copy(&law.left)?;
+    let right = copy(&law.right)?;
     if rule.minus {
         Ok(Equation {
             left: right,
@@ -57,7 +52,7 @@ fn equations(
 {
     let mut equations = Vec::with_capacity(alloc, rules.len())?;
     for rule in rules {
-        equations.push(equation(alloc, *rule, chunk, env)?)?;
+        equations.push(equation(*rule, chunk, env)?)?;
     }
     Ok(Equations::from_vec(equations))
 }
@@ -75,7 +70,7 @@ fn step(
 {
     match reason {
         ReasonAst::Plain => Ok(Step::Refl),
-        ReasonAst::Rule(rule) => Ok(Step::ByRule(equation(alloc, *rule, chunk, env)?)),
+        ReasonAst::Rule(rule) => Ok(Step::ByRule(equation(*rule, chunk, env)?)),
         ReasonAst::Simp(rules) => {
             Ok(Step::Simp(equations(alloc, rules.as_slice(), chunk, env)?))
         }

@@ -4,28 +4,29 @@ ghost use Rattle.chyp_term.specs.Term.{morphism_of};
 
 use crate::Perm;
 use chyp_base::{Name, NoMemory, Sorts};
-use std::alloc::Global;
+use std::rc::Rc;
 
 /// A term of string diagrams, typed or not. Contracts see it through `morphism_of` of
-/// `specs/Term.antt`, which leaves out the boxes.
+/// `specs/Term.antt`, which doesn't tell how its parts are shared.
 #[derive(Debug, Drop)]
 pub enum Term {
     /// A generator, by its name and its type.
     Gen { name: Name, dom: Sorts, cod: Sorts },
     /// A permutation of wires of the given sorts.
-    Perm { sorts: Sorts, perm: Perm },
+    Perm { sorts: Sorts, perm: Rc<Perm> },
     /// The first term and then the second: `s ; t`.
-    Seq(Box<Term>, Box<Term>),
+    Seq(Rc<Term>, Rc<Term>),
     /// The first term beside the second: `s * t`.
-    Par(Box<Term>, Box<Term>),
+    Par(Rc<Term>, Rc<Term>),
 }
 
-/// An equal term, which shares its names with this one. It is made by recursion as deep as the term.
+/// An equal term, which shares its parts with this one. It takes constant time and no memory, but for
+/// lists of sorts that aren't shared yet, which it copies.
 ///
 /// # Errors
 ///
-/// `NoMemory` where the term can't be kept, or a name can't be shared once more.
-pub fn copy(alloc: Global, term: &Term) -> Result<Term, NoMemory>
+/// `NoMemory` where such a list can't be kept, or a part or a name can't be shared once more.
+pub fn copy(term: &Term) -> Result<Term, NoMemory>
     ensures { IfOk result (λ copied. morphism_of copied ≡ morphism_of term.now) }
 {
     match term {
@@ -36,17 +37,9 @@ pub fn copy(alloc: Global, term: &Term) -> Result<Term, NoMemory>
         }),
         Term::Perm { sorts, perm } => Ok(Term::Perm {
             sorts: sorts.share()?,
-            perm: perm.copy()?,
+            perm: perm.clone()?,
         }),
-        Term::Seq(first, second) => {
-            let first = copy(alloc, first)?;
-            let second = copy(alloc, second)?;
-            Ok(Term::Seq(Box::new(alloc, first)?, Box::new(alloc, second)?))
-        }
-        Term::Par(left, right) => {
-            let left = copy(alloc, left)?;
-            let right = copy(alloc, right)?;
-            Ok(Term::Par(Box::new(alloc, left)?, Box::new(alloc, right)?))
-        }
+        Term::Seq(first, second) => Ok(Term::Seq(first.clone()?, second.clone()?)),
+        Term::Par(left, right) => Ok(Term::Par(left.clone()?, right.clone()?)),
     }
 }

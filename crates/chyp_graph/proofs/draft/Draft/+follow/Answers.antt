@@ -22,19 +22,19 @@ follow-requires-in-Seq t c =
     let room : length c.args.self.now.wires.items + size_of (then s u) < 2147483648 = subst (λ x. length c.args.self.now.wires.items + size_of x < 2147483648) m c.requires.room in
     let first : drawn c.follow.new.self ≡ followed (record old { outputs = [] }) (part c.args.live.now c.args.at s) (graph_of s) =
     c.in_ok-end-in-Seq.ensures.drawn ∙ ap₂ (λ o x. followed (record old { outputs = o }) (part c.args.live.now c.args.at x) (graph_of x))
-    (ap (λ v. v.items) c.replace-before.ensures.after ∙ c.new.ensures.items) (ap morphism_of c.deref.ensures) in
+    (ap (λ v. v.items) c.replace-before.ensures.after ∙ c.new.ensures.items) (ap morphism_of c.deref-in-Seq.ensures) in
     let r = follow_seq-room old (drawn c.follow.new.self) c.args.live.now c.args.at s u ty first room in
-    let d : morphism_of c.deref-in-Seq.result.now ≡ u = ap morphism_of c.deref-in-Seq.ensures in
-    let live : c.deref-in-Seq-2.result.now ≡ c.follow.new.self.outputs.items = c.deref-in-Seq-2.ensures.value ∙ ap (λ v. v.items) c.replace-middle.ensures.value in
+    let d : morphism_of c.deref-in-Seq-2.result.now ≡ u = ap morphism_of c.deref-in-Seq-2.ensures in
+    let live : c.deref-in-Seq-3.result.now ≡ c.follow.new.self.outputs.items = c.deref-in-Seq-3.ensures.value ∙ ap (λ v. v.items) c.replace-middle.ensures.value in
     let size : size_of (morphism_of c.args.term.now) ≡ size_of (then s u) = ap size_of m in
-    let second : size_of (morphism_of c.deref-in-Seq.result.now) ≡ size_of u = ap size_of d in
+    let second : size_of (morphism_of c.deref-in-Seq-2.result.now) ≡ size_of u = ap size_of d in
     let dec = c.decreases in (
       omega arith,
       (
         subst IsTyped (sym d) ty.1,
         (
           subst (λ x. length c.follow.new.self.wires.items + size_of x < 2147483648) (sym d) r.0,
-          subst (λ l. 0 + length (dom (morphism_of c.deref-in-Seq.result.now)) ≤ length l) (sym live) (subst (λ x. 0 + length (dom x) ≤ length c.follow.new.self.outputs.items) (sym d) r.1),
+          subst (λ l. 0 + length (dom (morphism_of c.deref-in-Seq-2.result.now)) ≤ length l) (sym live) (subst (λ x. 0 + length (dom x) ≤ length c.follow.new.self.outputs.items) (sym d) r.1),
         ),
       ),
     )
@@ -85,14 +85,14 @@ returns-in_ok-add_edge-in-Gen-clause-drawn t c =
 pub returns-in_ok-push_at-in-Perm-clause-drawn : goal.returns-in_ok-push_at-in-Perm-clause-drawn
 returns-in_ok-push_at-in-Perm-clause-drawn t c =
     let a = c.in-Perm.sorts in
-    let p = c.in-Perm.perm in
+    let p = c.in-Perm.perm.value in
     let m : morphism_of c.args.term.now ≡ permutation a p = ap morphism_of c.in-Perm.is in
     let old : PlainGraph = drawn c.args.self.now in
     let ty : IsPermutation (length a) p = subst IsTyped m c.requires.typed in
     let live : c.args.at + length a ≤ length c.args.live.now = subst (λ x. c.args.at + length (dom x) ≤ length c.args.live.now) m c.requires.live in
     let size : c.args.at + length c.as_slice-in-Perm.result.now - c.args.at ≡ length a = ap (λ l. c.args.at + length l - c.args.at) c.as_slice-in-Perm.ensures ∙ omega arith in
     let outputs : c.push_at.new.list.items ≡ old.outputs ++ permuted (take (length a) (drop c.args.at c.args.live.now)) p =
-    c.in_ok-push_at-in-Perm.ensures ∙ ap₂ (λ k q. old.outputs ++ permuted (take k (drop c.args.at c.args.live.now)) q) size c.places.ensures.value in
+    c.in_ok-push_at-in-Perm.ensures ∙ ap₂ (λ k q. old.outputs ++ permuted (take k (drop c.args.at c.args.live.now)) q) size (c.places.ensures.value ∙ c.deref.ensures) in
     subst (λ x. drawn (record c.args.self.now { outputs = c.push_at.new.list }) ≡ followed old (part c.args.live.now c.args.at x) (graph_of x)) (sym m)
     (ap (λ o. record { wires = old.wires; edges = old.edges; inputs = old.inputs; outputs = o }) outputs
     ∙ follow_permutation old (take (length a) (drop c.args.at c.args.live.now)) a p ty (length-part c.args.live.now c.args.at (length a) live))
@@ -107,13 +107,13 @@ returns-in_ok-follow-in-Seq-clause-drawn t c =
     let mid : PlainGraph = drawn c.follow.new.self in
     let first : drawn c.follow.new.self ≡ followed (record old { outputs = [] }) (part c.args.live.now c.args.at s) (graph_of s) =
     c.in_ok-end-in-Seq.ensures.drawn ∙ ap₂ (λ o x. followed (record old { outputs = o }) (part c.args.live.now c.args.at x) (graph_of x))
-    (ap (λ v. v.items) c.replace-before.ensures.after ∙ c.new.ensures.items) (ap morphism_of c.deref.ensures) in
-    let d : morphism_of c.deref-in-Seq.result.now ≡ u = ap morphism_of c.deref-in-Seq.ensures in
-    let live : c.deref-in-Seq-2.result.now ≡ c.follow.new.self.outputs.items = c.deref-in-Seq-2.ensures.value ∙ ap (λ v. v.items) c.replace-middle.ensures.value in
+    (ap (λ v. v.items) c.replace-before.ensures.after ∙ c.new.ensures.items) (ap morphism_of c.deref-in-Seq.ensures) in
+    let d : morphism_of c.deref-in-Seq-2.result.now ≡ u = ap morphism_of c.deref-in-Seq-2.ensures in
+    let live : c.deref-in-Seq-3.result.now ≡ c.follow.new.self.outputs.items = c.deref-in-Seq-3.ensures.value ∙ ap (λ v. v.items) c.replace-middle.ensures.value in
     let outs : c.replace-middle.new.dest.items ≡ c.args.self.now.outputs.items = ap (λ v. v.items) (c.replace-middle.ensures.after ∙ c.replace-before.ensures.value) in
     let second : drawn c.follow-in-Seq.new.self ≡ followed (record mid { outputs = old.outputs }) (part mid.outputs 0 u) (graph_of u) =
-    c.in_ok-follow-in-Seq.ensures.drawn ∙ ap₂ (λ o l. followed (record mid { outputs = o }) (part l 0 (morphism_of c.deref-in-Seq.result.now))
-    (graph_of (morphism_of c.deref-in-Seq.result.now))) outs live
+    c.in_ok-follow-in-Seq.ensures.drawn ∙ ap₂ (λ o l. followed (record mid { outputs = o }) (part l 0 (morphism_of c.deref-in-Seq-2.result.now))
+    (graph_of (morphism_of c.deref-in-Seq-2.result.now))) outs live
     ∙ ap (λ x. followed (record mid { outputs = old.outputs }) (part mid.outputs 0 x) (graph_of x)) d in
     subst (λ x. drawn c.follow-in-Seq.new.self ≡ followed old (part c.args.live.now c.args.at x) (graph_of x)) (sym m)
     (follow_seq old mid (drawn c.follow-in-Seq.new.self) c.args.live.now c.args.at s u ty first second)

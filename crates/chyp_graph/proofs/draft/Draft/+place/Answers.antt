@@ -17,14 +17,15 @@ use Rattle.chyp_graph.proofs.draft.Draft.+place.Goals as goal
 pub push_at-requires : goal.push_at-requires
 push_at-requires t c j h =
     let a = c.in-Perm.sorts in
-    let p = c.in-Perm.perm in
+    let p = c.in-Perm.perm.value in
     let m : morphism_of c.args.term.now ≡ permutation a p = ap morphism_of c.in-Perm.is in
     let ty : IsPermutation (length a) p = subst IsTyped m c.requires.typed in
     let size : length c.deref-in-Perm-2.result.now ≡ length a =
     ap length (c.deref-in-Perm-2.ensures.value ∙ c.in_ok-wires-in-Perm.ensures.numbers)
     ∙ length-count_from (length c.args.self.now.wires.items) (length c.as_slice-in-Perm.result.now) ∙ ap length c.as_slice-in-Perm.ensures in
-    let within : slice_index p j < length a = ty.within j (subst (λ n. j < n) ty.size (subst (λ l. j < length l) c.places.ensures.value h)) in
-    subst (λ n. slice_index c.places.result.now j < n) (sym size) (subst (λ l. slice_index l j < length a) (sym c.places.ensures.value) within)
+    let places = c.places.ensures.value ∙ c.deref-in-Perm-3.ensures in
+    let within : slice_index p j < length a = ty.within j (subst (λ n. j < n) ty.size (subst (λ l. j < length l) places h)) in
+    subst (λ n. slice_index c.places.result.now j < n) (sym size) (subst (λ l. slice_index l j < length a) (sym places) within)
 
 pub follow-requires-clause-room : goal.follow-requires-clause-room
 follow-requires-clause-room t c =
@@ -100,7 +101,7 @@ returns-in_ok-extend_from_slice-in-Gen t c =
 pub returns-in_ok-extend_from_slice-in-Perm : goal.returns-in_ok-extend_from_slice-in-Perm
 returns-in_ok-extend_from_slice-in-Perm t c =
     let a = c.in-Perm.sorts in
-    let p = c.in-Perm.perm in
+    let p = c.in-Perm.perm.value in
     let m : morphism_of c.args.term.now ≡ permutation a p = ap morphism_of c.in-Perm.is in
     let ty : IsPermutation (length a) p = subst IsTyped m c.requires.typed in
     let old : PlainGraph = drawn c.args.self.now in
@@ -114,7 +115,7 @@ returns-in_ok-extend_from_slice-in-Perm t c =
     (sym m)
     (ap₂ (λ w i. record { wires = w; edges = old.edges; inputs = i; outputs = c.push_at.new.list.items }) wires inputs
     ∙ ap (λ o. record { wires = old.wires ++ a; edges = old.edges; inputs = old.inputs ++ count_from (length old.wires) (length a); outputs = o })
-    (done ∙ ap₂ (λ l q. old.outputs ++ permuted l q) (c.deref-in-Perm-2.ensures.value ∙ numbers) c.places.ensures.value)
+    (done ∙ ap₂ (λ l q. old.outputs ++ permuted l q) (c.deref-in-Perm-2.ensures.value ∙ numbers) (c.places.ensures.value ∙ c.deref-in-Perm-3.ensures))
     ∙ place_permutation old a p ty))
     c.push_at.ensures
 
