@@ -1,0 +1,4 @@
+pub mod Images
+pub mod Numbers
+pub mod Layout
+pub mod Renumbered
