@@ -1,4 +1,3 @@
-pub mod Halving
 pub mod Extraction
 pub mod Measuring
 pub mod Rehalving

@@ -15,3 +15,4 @@ pub mod Ordered
 pub mod Rearrangement
 pub mod SameMembers
 pub mod Slices
+pub mod Halving

@@ -9,3 +9,4 @@ pub mod Measure
 pub mod Limits
 pub mod Equation
 pub mod Step
+pub mod Halving
