@@ -1,7 +1,7 @@
 // Tables of ports: of each wire, the edge and the place where it stands on one side.
 ghost use Rattle.std.specs.Prelude.{◌≡◌, ℕ, ◌<◌, ◌≤◌, ◌+◌, ◌^◌, All, IfOk, List, Option, Some, length, slice_get, take};
 ghost use Rattle.chyp_graph.specs.Graph.{IsTable};
-ghost use Rattle.chyp_graph.specs.PortTable.{AreNoted, ports_on};
+ghost use Rattle.chyp_graph.specs.PortTable.{AreNoted, HasPortsWithin, ports_on};
 
 use crate::side::Side;
 use crate::{EdgeId, EdgePart, WireId};
@@ -18,7 +18,7 @@ pub(crate) fn table_of(
     side: Side,
 ) -> Result<Vec<Port>, AllocError>
     requires few { length edges.now < 2 ^ 31 }
-    requires ports { All (λ e. (length (ports_on side e) < 2 ^ 32) × All (λ w. w < wires) (ports_on side e)) edges.now }
+    requires ports { All (HasPortsWithin side wires) edges.now }
     ensures { IfOk result (λ table. IsTable (ports_on side) edges.now wires table.items) }
 {
     let mut table = vec![in alloc; None; wires]?;
