@@ -9,7 +9,7 @@ ghost use Rattle.chyp_app.specs.Headline.{Begins, BeginsToCheck, EndsSo, EndsWel
 use crate::check::{check_text, each_run_has_one_output};
 use crate::read::{ReadStop, read_text};
 use chyp_base::{Failed, Library, MAX_TEXT_LEN, NoMemory, Sink, Source, Status, Steps};
-use chyp_session::write_text;
+use chyp_write::write_text;
 use std::alloc::Global;
 use std::sync::ledger::Ledger;
 

@@ -1,4 +1,3 @@
 pub mod Line
 pub mod Place
 pub mod Reply
-pub mod Writing

@@ -1,10 +1,11 @@
 // Lines of a report.
 ghost use Rattle.std.specs.Prelude.{◌≡◌, ◌-◌, ◌^◌, ◌<◌, ◌++◌, codes, decimal, option_copied};
 ghost use Rattle.chyp_session.specs.Line.{heading_text, line_text, name_or_dash, place_text, verdict_or_pending, verdict_text};
-ghost use Rattle.chyp_session.specs.Writing.{Writes};
+ghost use Rattle.chyp_write.specs.Writing.{Writes};
 
-use crate::{Place, write_all, write_text};
+use crate::Place;
 use chyp_base::{Failed, Name, Sink, Verdict};
+use chyp_write::{write_all, write_text};
 use itoa::Buffer;
 
 /// What the line of a statement shows.

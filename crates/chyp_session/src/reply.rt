@@ -1,10 +1,10 @@
 // Replies.
 ghost use Rattle.std.specs.Prelude.{◌≡◌, ◌-◌, ◌^◌, ◌<◌};
 ghost use Rattle.chyp_session.specs.Reply.{reply_text};
-ghost use Rattle.chyp_session.specs.Writing.{Writes};
+ghost use Rattle.chyp_write.specs.Writing.{Writes};
 
-use crate::write_all;
 use chyp_base::{Failed, Sink};
+use chyp_write::write_all;
 use itoa::Buffer;
 
 /// A line that isn't a statement's.

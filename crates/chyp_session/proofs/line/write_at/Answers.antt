@@ -1,7 +1,7 @@
 use Rattle.std.proofs.Common.{◌++◌, subst}
 use Rattle.chyp_session.specs.Line.{place_text}
-use Rattle.chyp_session.specs.Writing.{Writes}
-use Rattle.chyp_session.proofs.WritingLemmas.{writes-more, writes-part}
+use Rattle.chyp_write.specs.Writing.{Writes}
+use Rattle.chyp_write.proofs.WritingLemmas.{writes-more, writes-part}
 use Rattle.chyp_session.proofs.line.write_at.Goals as goal
 
 pub returns-in_err-write_text : goal.returns-in_err-write_text

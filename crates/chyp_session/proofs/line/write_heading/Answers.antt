@@ -1,6 +1,6 @@
 use Rattle.std.proofs.Common.{◌++◌, ◌∷◌, [], subst}
-use Rattle.chyp_session.specs.Writing.{Writes}
-use Rattle.chyp_session.proofs.WritingLemmas.{writes-more, writes-part}
+use Rattle.chyp_write.specs.Writing.{Writes}
+use Rattle.chyp_write.proofs.WritingLemmas.{writes-more, writes-part}
 use Rattle.chyp_session.proofs.line.write_heading.Goals as goal
 
 pub returns-in_err-write_place : goal.returns-in_err-write_place

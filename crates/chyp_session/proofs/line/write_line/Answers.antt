@@ -1,5 +1,5 @@
 use Rattle.std.proofs.Common.{rules}
-use Rattle.chyp_session.proofs.WritingLemmas.{writes-more, writes-part}
+use Rattle.chyp_write.proofs.WritingLemmas.{writes-more, writes-part}
 use Rattle.chyp_session.proofs.line.write_line.Goals as goal
 
 pub returns-in_err-write_heading : goal.returns-in_err-write_heading
