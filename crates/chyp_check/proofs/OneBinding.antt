@@ -156,7 +156,8 @@ binds-once one s n v a b (anew {name} {sense} f i t) (anew {name = other} {sense
 pub verdicts-once : ((tokens : List Token) → ArePrefixesClosed tokens) → ((tokens : List Token) → HasOneTree tokens) → (home text : List ℕ) (n : ℕ) (env : List Binding)
     (statements : List (List Token)) (vs ws : List Verdict) (a b : List Binding) → GetVerdicts home text n env statements vs a → GetVerdicts home text n env statements ws b → vs ≡ ws
 verdicts-once closed one home text n env statements vs ws a b no_more no_more = refl
-verdicts-once closed one home text n env statements vs ws a b (one_more {next = next} {statement = s} {rest = rest} {verdict = v} {verdicts = more} j x g) (one_more {next = other} {verdict = w} {verdicts = others} k y h) =
+verdicts-once closed one home text n env statements vs ws a b (one_more {next = next} {statement = s} {rest = rest} {verdict = v} {verdicts = more} j x g)
+    (one_more {next = other} {verdict = w} {verdicts = others} k y h) =
     let same = judged-once closed one (site home text env s) v w j k in
     let binds = binds-once one (site home text env s) n v next other x (subst (λ u. Binds (site home text env s) n u other) (sym same) y) in
     ap₂ (λ u us. u ∷ us) same (verdicts-once closed one home text (suc n) next rest more others a b g (subst (λ e. GetVerdicts home text (suc n) e rest others b) (sym binds) h))

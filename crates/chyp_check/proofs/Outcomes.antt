@@ -11,7 +11,6 @@ use Rattle.chyp_syntax.specs.Step.{StepTree}
 use Rattle.chyp_syntax.proofs.Spans.{spans_few}
 use Rattle.chyp_term.specs.Measure.{size_of}
 use Rattle.chyp_term.specs.Morphism.{Morphism, generator, permutation, then, beside}
-use Rattle.chyp_term.specs.Term.{morphisms_of}
 use Rattle.chyp_env.specs.declared.chunk_view.ChunkView.{ChunkView}
 use Rattle.chyp_env.specs.ChunkView.{IsLent}
 use Rattle.chyp_env.specs.Site.{Site}
@@ -44,10 +43,10 @@ terms_few (t ∷ ts) =
 
 -- the verdict of a sentence that nothing refuses
 pub judged_sentence : (s : Site) (tree : StatementTree) (body : Body) (v : Verdict) → IsSentence s.tokens tree → Passes s tree → IsBody s tree body
-    → IsVerdictOf (morphisms_of body.terms) tree v → IsJudged s v
+    → IsVerdictOf body.terms tree v → IsJudged s v
 judged_sentence s tree body v t p b = go tree t p b.terms
   where
-    go : (tree : StatementTree) → IsSentence s.tokens tree → Passes s tree → morphisms_of body.terms ≡ terms_of s tree → IsVerdictOf (morphisms_of body.terms) tree v → IsJudged s v
+    go : (tree : StatementTree) → IsSentence s.tokens tree → Passes s tree → body.terms ≡ terms_of s tree → IsVerdictOf body.terms tree v → IsJudged s v
     go (a_gen name dom cod) t p e h = subst (IsJudged s) (sym h) (accepted t p refl)
     go (definition name tree) t p e h = subst (IsJudged s) (sym h) (accepted t p refl)
     go (rule name left equals right) t p e h = subst (IsJudged s) (sym h) (accepted t p refl)
@@ -82,11 +81,11 @@ proved-keyword terms (rewrite name first steps) v h e = refl
 
 -- a sentence that nothing refuses has an outcome with its body
 pub passing_outcome : (s : Site) (tree : StatementTree) (body : Body) (v : Verdict) → IsSentence s.tokens tree → Passes s tree → IsBody s tree body
-    → IsVerdictOf (morphisms_of body.terms) tree v → IsOutcome s (Some body) v
+    → IsVerdictOf body.terms tree v → IsOutcome s (Some body) v
 passing_outcome s tree body v t p b h = record {
   elaborates = record { tree = tree; is_sentence = t; passes = p; is_body = b };
-  accepted = λ e. (refl, λ r. accepted-keyword (morphisms_of body.terms) tree v h e (sentence-is_rewrite s.tokens tree t r));
-  proved = λ e. (refl, rewrite-begins s.tokens tree t (proved-keyword (morphisms_of body.terms) tree v h e));
+  accepted = λ e. (refl, λ r. accepted-keyword body.terms tree v h e (sentence-is_rewrite s.tokens tree t r));
+  proved = λ e. (refl, rewrite-begins s.tokens tree t (proved-keyword body.terms tree v h e));
 }
 
 -- a statement that isn't good has an outcome without one

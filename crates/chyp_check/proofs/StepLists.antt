@@ -4,10 +4,6 @@ use Rattle.std.proofs.lemmas.Bool.{cases_lt}
 use Rattle.std.specs.List.{list_any}
 use Rattle.chyp_term.specs.Derivation.{Derives, IsEquation}
 use Rattle.chyp_term.specs.Morphism.{Morphism}
-use Rattle.chyp_term.specs.Limits.{most_size}
-use Rattle.chyp_term.specs.Measure.{size_of}
-use Rattle.chyp_term.specs.Term.{morphism_of, morphisms_of}
-use Rattle.chyp_term.specs.declared.term.Term.{Term}
 use Rattle.chyp_names.specs.Typing.{AreTypedAlike}
 use Rattle.chyp_check.specs.Steps.{AreDerived, equations_between}
 use Rattle.chyp_check.proofs.OneVerdict.{slice_get-read}
@@ -69,11 +65,11 @@ none-more test f xs n x none at no' k y h e = go (cases_lt k n)
         let is : x ≡ y = cc in
         ap (λ z. test (f z)) (sym is) ∙ no'
 
--- the term at a place, as contracts see it
-pub morphism-at : (terms : List Term) (k : ℕ) (t : Term) → k < length terms → t ≡ slice_index_or terms k t → slice_get (morphisms_of terms) k ≡ Some (morphism_of t)
-morphism-at [] k t h e = absurd (omega arith)
-morphism-at (x ∷ xs) zero t h e = ap (λ y. Some (morphism_of y)) (sym e)
-morphism-at (x ∷ xs) (suc k) t h e = morphism-at xs k t (omega arith) e
+-- the term at a place
+pub term-at : (terms : List Morphism) (k : ℕ) (t : Morphism) → k < length terms → t ≡ slice_index_or terms k t → slice_get terms k ≡ Some t
+term-at [] k t h e = absurd (omega arith)
+term-at (x ∷ xs) zero t h e = ap Some (sym e)
+term-at (x ∷ xs) (suc k) t h e = term-at xs k t (omega arith) e
 
 -- two of the terms are an equation
 pub typed-at : (terms : List Morphism) (j k : ℕ) (s t : Morphism) → AreTypedAlike terms → slice_get terms j ≡ Some s → slice_get terms k ≡ Some t → IsEquation s t
@@ -81,9 +77,3 @@ typed-at terms j k s t alike e f =
     let a = slice_get-read terms j s e in
     let b = slice_get-read terms k t f in
     subst (IsEquation s) b.1 (subst (λ m. IsEquation m (slice_index_or terms k t)) a.1 (alike j s a.0 k t b.0))
-
--- each of the terms is small
-pub size-at : (terms : List Morphism) (k : ℕ) (t : Morphism) → All (λ m. size_of m ≤ most_size) terms → slice_get terms k ≡ Some t → size_of t ≤ most_size
-size-at terms k t small e =
-    let a = slice_get-read terms k t e in
-    subst (λ m. size_of m ≤ most_size) a.1 (small k t a.0)

@@ -1,12 +1,10 @@
 // The verdict of one statement.
-ghost use Rattle.std.specs.Prelude.{◌≡◌, ◌≤◌, ◌<◌, ◌+◌, ◌^◌, All, IfOk, IfSome, OnOk, OnErr, length, true};
+ghost use Rattle.std.specs.Prelude.{◌≡◌, ◌≤◌, ◌<◌, ◌+◌, ◌^◌, IfOk, IfSome, OnOk, OnErr, length, true};
 ghost use Rattle.chyp_syntax.specs.Sentence.{IsSentence};
 ghost use Rattle.chyp_syntax.specs.Statement.{statement_of};
 ghost use Rattle.chyp_env.specs.ChunkView.{IsLent, site_of};
-ghost use Rattle.chyp_term.specs.Limits.{IsWithinLimits};
 ghost use Rattle.chyp_names.specs.Binding.{IsOutcome};
 ghost use Rattle.chyp_names.specs.Typing.{AreTypedAlike};
-ghost use Rattle.chyp_term.specs.Term.{morphisms_of};
 ghost use Rattle.chyp_check.specs.Judged.{IsJudged, IsVerdictOf, is_rewrite};
 
 use crate::Inputs;
@@ -27,10 +25,9 @@ pub(crate) struct Outcome {
 // The verdict of a statement that nothing refuses.
 fn verdict_of(alloc: Global, ast: &Ast, body: &Body) -> Result<Verdict, NoMemory>
     requires few { length body.now.terms < 2 ^ 32 }
-    requires alike { AreTypedAlike (morphisms_of body.now.terms) }
-    requires small { All IsWithinLimits (morphisms_of body.now.terms) }
+    requires alike { AreTypedAlike body.now.terms }
     requires first { is_rewrite (statement_of ast.now) ≡ true → 0 < length body.now.terms }
-    ensures { IfOk result (λ verdict. IsVerdictOf (morphisms_of body.now.terms) (statement_of ast.now) verdict) }
+    ensures { IfOk result (λ verdict. IsVerdictOf body.now.terms (statement_of ast.now) verdict) }
 {
     match ast {
         Ast::RewriteDecl { steps, .. } => {
@@ -46,7 +43,7 @@ fn judge_sentence(alloc: Global, inputs: &Inputs<'_>, ast: &Ast) -> Result<Outco
     requires sentence { IsSentence inputs.now.chunk.tokens.now (statement_of ast.now) }
     ensures judged { IfOk result (λ outcome. IsJudged (site_of inputs.now.«module».now inputs.now.chunk inputs.now.env.now) outcome.verdict) }
     ensures outcome { IfOk result (λ outcome. IsOutcome (site_of inputs.now.«module».now inputs.now.chunk inputs.now.env.now) outcome.body outcome.verdict) }
-    ensures typed { IfOk result (λ outcome. IfSome outcome.body (λ body. AreTypedAlike (morphisms_of body.terms))) }
+    ensures typed { IfOk result (λ outcome. IfSome outcome.body (λ body. AreTypedAlike body.terms)) }
 {
     let body = match elaborate(alloc, inputs.module, ast, &inputs.chunk, inputs.env) {
         Ok(body) => body,
@@ -66,7 +63,7 @@ pub(crate) fn judge_statement(alloc: Global, inputs: &Inputs<'_>) -> Result<Outc
     requires { IsLent inputs.now.chunk }
     ensures judged { IfOk result (λ outcome. IsJudged (site_of inputs.now.«module».now inputs.now.chunk inputs.now.env.now) outcome.verdict) }
     ensures outcome { IfOk result (λ outcome. IsOutcome (site_of inputs.now.«module».now inputs.now.chunk inputs.now.env.now) outcome.body outcome.verdict) }
-    ensures typed { IfOk result (λ outcome. IfSome outcome.body (λ body. AreTypedAlike (morphisms_of body.terms))) }
+    ensures typed { IfOk result (λ outcome. IfSome outcome.body (λ body. AreTypedAlike body.terms)) }
 {
     match parse(alloc, inputs.chunk.tokens) {
         Ok(ast) => judge_sentence(alloc, inputs, &ast),

@@ -1,17 +1,17 @@
 // The verdict on a rewrite that nothing refuses, by its steps.
-ghost use Rattle.std.specs.Prelude.{◌≡◌, ◌≤◌, ◌<◌, ◌+◌, ◌^◌, ℕ, All, IfOk, IfNone, IfSome, length, map};
+ghost use Rattle.std.specs.Prelude.{◌≡◌, ◌≤◌, ◌<◌, ◌+◌, ◌^◌, ℕ, IfOk, IfNone, IfSome, length, map};
 ghost use Rattle.std.specs.List.{list_any};
 ghost use Rattle.chyp_syntax.specs.Step.{step_of};
-ghost use Rattle.chyp_term.specs.Limits.{most_size};
-ghost use Rattle.chyp_term.specs.Measure.{size_of};
-ghost use Rattle.chyp_term.specs.Term.{morphisms_of};
+ghost use Rattle.chyp_term.specs.Derivation.{IsEquation};
+ghost use Rattle.chyp_judge.specs.Judged.{IsJudgement};
 ghost use Rattle.chyp_names.specs.Typing.{AreTypedAlike};
 ghost use Rattle.chyp_check.specs.Steps.{AreDerived, FailsAtStep, IsVerdictOnSteps, equations_between, is_hole, is_open, needs_rules, rests_on_rules};
 
 use chyp_base::{NoMemory, Verdict};
 use chyp_judge::{Judged, judge};
+use chyp_names::KnownTerm;
 use chyp_syntax::{ReasonAst, StepAst};
-use chyp_term::{Step, Term};
+use chyp_term::Step;
 use std::alloc::Global;
 
 // Whether a step leads to a term and has a `by`.
@@ -59,16 +59,25 @@ fn is_open(steps: &[StepAst]) -> bool
     steps.is_empty() || has_hole(steps)
 }
 
+// Whether the laws derive the equation of two terms of one type.
+fn judged(alloc: Global, from: &KnownTerm, to: &KnownTerm) -> Result<Judged, NoMemory>
+    requires { IsEquation from.now to.now }
+    ensures { IfOk result (IsJudgement from.now to.now) }
+{
+    from.small();
+    to.small();
+    judge(alloc, from.term(), to.term(), &Step::Refl)
+}
+
 // The number, from 1, of the first step whose equation the laws don't derive.
-fn first_underived(alloc: Global, terms: &[Term]) -> Result<Option<u32>, NoMemory>
-    requires alike { AreTypedAlike (morphisms_of terms.now) }
-    requires small { All (λ t. size_of t ≤ most_size) (morphisms_of terms.now) }
+fn first_underived(alloc: Global, terms: &[KnownTerm]) -> Result<Option<u32>, NoMemory>
+    requires alike { AreTypedAlike terms.now }
     requires few { length terms.now < 2 ^ 32 }
-    ensures some { IfOk result (λ found. IfSome found (λ step. FailsAtStep (morphisms_of terms.now) step)) }
-    ensures none { IfOk result (λ found. IfNone found (AreDerived (equations_between (morphisms_of terms.now)) (length (equations_between (morphisms_of terms.now))))) }
+    ensures some { IfOk result (λ found. IfSome found (λ step. FailsAtStep terms.now step)) }
+    ensures none { IfOk result (λ found. IfNone found (AreDerived (equations_between terms.now) (length (equations_between terms.now)))) }
 {
     for at in 1..terms.len() {
-        match judge(alloc, &terms[at - 1], &terms[at], &Step::Refl)? {
+        match judged(alloc, &terms[at - 1], &terms[at])? {
             Judged::Good => {}
             Judged::Differs => return Ok(Some(at as u32)),
         }
@@ -79,14 +88,13 @@ fn first_underived(alloc: Global, terms: &[Term]) -> Result<Option<u32>, NoMemor
 /// The verdict on a rewrite with these terms and steps.
 pub(crate) fn verdict_on_steps(
     alloc: Global,
-    terms: &[Term],
+    terms: &[KnownTerm],
     steps: &[StepAst],
 ) -> Result<Verdict, NoMemory>
     requires some { 0 < length terms.now }
-    requires alike { AreTypedAlike (morphisms_of terms.now) }
-    requires small { All (λ t. size_of t ≤ most_size) (morphisms_of terms.now) }
+    requires alike { AreTypedAlike terms.now }
     requires few { length terms.now < 2 ^ 32 }
-    ensures { IfOk result (λ verdict. IsVerdictOnSteps (morphisms_of terms.now) (map step_of steps.now) verdict) }
+    ensures { IfOk result (λ verdict. IsVerdictOnSteps terms.now (map step_of steps.now) verdict) }
 {
     if needs_rules(steps) {
         return Ok(Verdict::NotBuilt);

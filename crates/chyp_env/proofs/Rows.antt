@@ -167,7 +167,8 @@ pub chain_linked : (meaning : ℕ → Morphism) (parts : List TermAst) (semis : 
 chain_linked meaning [] semis h = λ k within. absurd (omega arith)
 chain_linked meaning (p ∷ parts) semis h =
     subst AreLinked (expansions-parts meaning (p ∷ parts))
-    (behind-linked meaning (part_in meaning p) (terms_of (map tree_of parts)) semis (hold-behind (tests_of meaning (tree_of p)) (tests_behind meaning (part_in meaning p) (terms_of (map tree_of parts)) semis) h))
+    (behind-linked meaning (part_in meaning p) (terms_of (map tree_of parts)) semis
+        (hold-behind (tests_of meaning (tree_of p)) (tests_behind meaning (part_in meaning p) (terms_of (map tree_of parts)) semis) h))
 
 -- ---- the types of rows
 

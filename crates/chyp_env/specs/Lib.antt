@@ -5,7 +5,7 @@ pub mod Environment
 pub mod Import
 pub mod Expansion
 pub mod Kept
-pub mod Known
+pub mod KnownTerm
 pub mod PlainWires
 pub mod Shape
 pub mod Site

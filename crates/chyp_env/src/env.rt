@@ -1,35 +1,22 @@
 // What names stand for.
 ghost use Rattle.std.specs.Prelude.{◌≡◌, ℕ, [], ◌∷◌, ◌++◌, false, IfSome, IfNone, IfOk, OnOk, OnErr, Some, None};
-ghost use Rattle.std.specs.Option.{option_map_or};
-ghost use Rattle.chyp_term.specs.Derivation.{empty};
 ghost use Rattle.chyp_env.specs.Entry.{entry_of, sense_of};
 ghost use Rattle.chyp_env.specs.Environment.{binding_of, is_bound};
-ghost use Rattle.chyp_env.specs.Kept.{AreKnown};
-ghost use Rattle.chyp_env.specs.Known.{IsKnown};
 ghost use Rattle.chyp_env.specs.PlainWires.{ArePlain};
-ghost use Rattle.chyp_env.specs.Site.{term_of};
 ghost use Rattle.chyp_env.specs.Sound.{IsSound, IsSoundSense};
 
-use crate::known::{Known, known_of};
 use crate::{Entry, PlainWires};
 use chyp_base::NoMemory;
 use indexmap::IndexMap;
 use std::alloc::Global;
 use std::marker::Model;
 
-/// An entry, with what is known of the term that it stands for, if it stands for one.
-#[derive(Debug, Drop)]
-pub(crate) struct Kept {
-    pub(crate) entry: Entry,
-    pub(crate) known: Option<Known>,
-}
-
 /// What names stand for, in the order of binding, each name once. Contracts see it as the list of its
 /// bindings, of `specs/Environment.antt`, and it is always sound: terms are typed and within the limits
 /// on one term, laws are equations, and generators have few ports.
 #[derive(Drop)]
 pub struct Env {
-    entries: IndexMap<Vec<u8>, Kept>,
+    entries: IndexMap<Vec<u8>, Entry>,
     plain: Option<PlainWires>,
 }
 
@@ -48,9 +35,9 @@ impl Model for Env {
     ghost use Rattle.chyp_env.specs.PlainWires.{ArePlain};
     ghost use Rattle.chyp_env.specs.Sound.{HasDistinctNames};
 
-    ghost view = { λ e. map (λ pair. entry_of pair.1.entry) e.entries.entries };
+    ghost view = { λ e. map (λ pair. entry_of pair.1) e.entries.entries };
 
-    ghost invariant = { λ e. All (λ pair. IsKept pair.0.items pair.1) e.entries.entries × HasDistinctNames (map (λ pair. entry_of pair.1.entry) e.entries.entries) × IfSome e.plain ArePlain };
+    ghost invariant = { λ e. All (λ pair. IsKept pair.0.items pair.1) e.entries.entries × HasDistinctNames (map (λ pair. entry_of pair.1) e.entries.entries) × IfSome e.plain ArePlain };
 }
 
 impl Env {
@@ -70,17 +57,7 @@ impl Env {
         ensures some { IfSome result (λ entry. binding_of self.now name.now ≡ Some (entry_of entry.now)) }
         ensures none { IfNone result (binding_of self.now name.now ≡ None) }
     {
-        let kept = self.entries.get(name)?;
-        Some(&kept.entry)
-    }
-
-    /// What is known of the term that the name stands for, None where it stands for none.
-    pub(crate) fn known(&self, name: &[u8]) -> Option<&Known>
-        ensures some { IfSome result (λ known. IsKnown known.now (option_map_or (λ b. term_of b.sense) (binding_of self.now name.now) empty)) }
-        ensures none { IfNone result (option_map_or (λ b. term_of b.sense) (binding_of self.now name.now) empty ≡ empty) }
-    {
-        let kept = self.entries.get(name)?;
-        kept.known.as_ref()
+        self.entries.get(name)
     }
 
     /// Every environment is sound.
@@ -119,35 +96,31 @@ impl Env {
         *self.entries.allocator()
     }
 
-    /// Binds the name of an entry, which is not bound yet. What is known of its term is found by
-    /// recursion as deep as the term.
+    /// Binds the name of an entry, which is not bound yet. It takes constant time on average.
     ///
     /// # Errors
     ///
-    /// `NoMemory` where the entry, or what is known of it, can't be kept; nothing is bound then.
+    /// `NoMemory` where the entry can't be kept; nothing is bound then.
     pub fn insert(&mut self, entry: Entry) -> Result<(), NoMemory>
         requires fresh { is_bound self.old entry.name ≡ false }
         requires sound { IsSoundSense (sense_of entry.meaning) }
         ensures ok { OnOk result (self.new ≡ self.old ++ entry_of entry ∷ []) }
         ensures err { OnErr result (self.new ≡ self.old) }
     {
-        let (name, known) = self.prepare(&entry)?;
+        let name = self.prepare(&entry)?;
         // The name is new, so nothing is dropped; as a call, it takes one step of the proof.
-        drop(self.entries.insert(name, Kept { entry, known })?);
+        drop(self.entries.insert(name, entry)?);
         Ok(())
     }
 
-    /// The name of an entry to be bound, in bytes, and what is known of its term. The plain wires are
-    /// kept from then on.
-    fn prepare(&mut self, entry: &Entry) -> Result<(Vec<u8>, Option<Known>), NoMemory>
-        requires { IsSoundSense (sense_of entry.now.meaning) }
+    /// The name of an entry to be bound, in bytes. The plain wires are kept from then on.
+    fn prepare(&mut self, entry: &Entry) -> Result<Vec<u8>, NoMemory>
         ensures same { self.new ≡ self.old }
-        ensures ok { IfOk result (λ made. (made.0.items ≡ entry.now.name) × AreKnown (sense_of entry.now.meaning) made.1) }
+        ensures ok { IfOk result (λ name. name.items ≡ entry.now.name) }
     {
         self.keep_plain()?;
         let alloc = self.allocator();
-        let known = known_of(alloc, &entry.meaning)?;
         let name = Vec::from_slice(alloc, entry.name.as_str().as_bytes())?;
-        Ok((name, known))
+        Ok(name)
     }
 }

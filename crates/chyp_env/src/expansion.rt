@@ -36,7 +36,7 @@ pub(crate) enum Join {
 ///
 /// `NoMemory` where the term can't be kept.
 #[cycle(terms)]
-pub fn expand(
+pub(crate) fn expand(
     alloc: Global,
     plain: &PlainWires,
     tree: &TermAst,
@@ -126,7 +126,7 @@ fn meant(alloc: Global, meaning: &Meaning) -> Result<Term, NoMemory>
             dom: shape.dom.share()?,
             cod: shape.cod.share()?,
         }),
-        Meaning::Abbrev(term) => copy(term),
+        Meaning::Abbrev(term) => copy(term.term()),
         Meaning::Law(_) | Meaning::Unproved | Meaning::Broken => no_wires(alloc),
     }
 }

@@ -1,6 +1,7 @@
 // What names stand for.
+use crate::KnownTerm;
 use chyp_base::Name;
-use chyp_term::{Equation, Shape, Term};
+use chyp_term::{Equation, Shape};
 
 /// What a name stands for. Contracts see it through `sense_of` of `specs/Entry.antt`.
 #[derive(Debug, Drop)]
@@ -8,7 +9,7 @@ pub enum Meaning {
     /// A generator, by its name in terms and its type.
     Generator(Name, Shape),
     /// A term.
-    Abbrev(Term),
+    Abbrev(KnownTerm),
     /// A law, which leads from its left side to its right one.
     Law(Equation),
     /// A rewrite that is not proved.

@@ -1,16 +1,18 @@
 // How big the terms are that trees stand for.
 ghost use Rattle.std.specs.Prelude.{◌≡◌, ℕ, List, [], length, map};
 ghost use Rattle.chyp_base.specs.declared.sort.Sort.{Sort};
-ghost use Rattle.chyp_term.specs.Morphism.{Morphism, permutation};
+ghost use Rattle.chyp_term.specs.Morphism.{Morphism, generator as a_generator, permutation};
 ghost use Rattle.chyp_syntax.specs.Term.{tree_of};
 ghost use Rattle.chyp_env.specs.ChunkView.{IsLent, site_of};
+ghost use Rattle.chyp_env.specs.Entry.{sense_of};
 ghost use Rattle.chyp_env.specs.Expansion.{expansion_in, halved, join_of};
 ghost use Rattle.chyp_env.specs.Sizes.{AreSizes};
-ghost use Rattle.chyp_env.specs.Site.{meaning_at};
+ghost use Rattle.chyp_env.specs.Site.{meaning_at, term_of};
 
 use crate::expansion::Join;
-use crate::{ChunkView, Env};
+use crate::{ChunkView, Env, Meaning};
 use chyp_syntax::{TermAst, text_at};
+use chyp_term::Shape;
 
 /// The measures of a term, each 2^64 - 1 where it is greater.
 #[derive(Clone, Copy, Debug, PartialEq, Eq)]
@@ -90,8 +92,32 @@ fn sizes_of_name(token: u32, chunk: &ChunkView<'_>, env: &Env) -> Sizes
     requires { IsLent chunk.now }
     ensures { AreSizes result (meaning_at (site_of [] chunk.now env.now) token) }
 {
-    match env.known(text_at(chunk.first, chunk.tokens, token)) {
-        Some(known) => known.sizes,
+    match env.lookup(text_at(chunk.first, chunk.tokens, token)) {
+        Some(entry) => sizes_of_meaning(&entry.meaning),
         None => sizes_of_permutation(0),
+    }
+}
+
+// The measures of the term of a meaning, empty where it has none.
+fn sizes_of_meaning(meaning: &Meaning) -> Sizes
+    ensures { AreSizes result (term_of (sense_of meaning.now)) }
+{
+    match meaning {
+        Meaning::Generator(_, shape) => sizes_of_generator(shape),
+        Meaning::Abbrev(term) => term.sizes(),
+        Meaning::Law(_) | Meaning::Unproved | Meaning::Broken => sizes_of_permutation(0),
+    }
+}
+
+/// The measures of a generator of this type. It takes no memory.
+pub fn sizes_of_generator(shape: &Shape) -> Sizes
+    ensures { (name : List ℕ) → AreSizes result (a_generator name shape.now.dom shape.now.cod) }
+{
+    Sizes {
+        size: 1u64
+            .saturating_add(shape.dom.as_slice().len() as u64)
+            .saturating_add(shape.cod.as_slice().len() as u64),
+        depth: 1,
+        generators: 1,
     }
 }

@@ -1,18 +1,21 @@
 // The types of the terms that trees stand for.
 ghost use Rattle.std.specs.Prelude.{◌≡◌, ℕ, List, [], length, map, IfOk, IfErr, IsOk, Err, slice_index};
+ghost use Rattle.chyp_term.specs.Derivation.{empty};
 ghost use Rattle.chyp_term.specs.Morphism.{dom, cod};
 ghost use Rattle.chyp_syntax.specs.Term.{tree_of, chain, beside as tensor, terms_of};
 ghost use Rattle.chyp_term.specs.Perm.{IsPermutation};
 ghost use Rattle.chyp_env.specs.ChunkView.{IsLent, site_of};
+ghost use Rattle.chyp_env.specs.Entry.{sense_of};
 ghost use Rattle.chyp_env.specs.Expansion.{expansion_in, plain_permutation};
 ghost use Rattle.chyp_env.specs.PlainWires.{ArePlain};
 ghost use Rattle.chyp_env.specs.Shape.{IsShape};
-ghost use Rattle.chyp_env.specs.Site.{meaning_at};
+ghost use Rattle.chyp_env.specs.Site.{meaning_at, term_of};
 ghost use Rattle.chyp_env.specs.Typing.{AllHold, FailsFirst, tests_of};
 
 use crate::expansion::narrowed;
+use crate::known_term::share_shape;
 use crate::plain_wires::PlainWires;
-use crate::{ChunkView, Env};
+use crate::{ChunkView, Env, Meaning};
 use chyp_base::{NoMemory, Sorts};
 use chyp_syntax::{TermAst, text_at};
 use chyp_term::{Perm, Places, Shape};
@@ -48,7 +51,7 @@ impl From<NoMemory> for TypeFault {
 /// places are no permutation, or a `;` in front of a part whose domain is not the codomain of the part
 /// before it. `NoMemory` where the lists of sorts can't be kept.
 #[cycle(shapes)]
-pub fn shape_of_tree(
+pub(crate) fn shape_of_tree(
     alloc: Global,
     plain: &PlainWires,
     tree: &TermAst,
@@ -204,14 +207,29 @@ fn shape_of_name(
     requires { IsLent chunk.now }
     ensures { IfOk result (λ shape. IsShape shape (meaning_at (site_of [] chunk.now env.now) token)) }
 {
-    match env.known(text_at(chunk.first, chunk.tokens, token)) {
-        Some(known) => Ok(Shape {
-            dom: known.shape.dom.share()?,
-            cod: known.shape.cod.share()?,
-        }),
-        None => Ok(Shape {
-            dom: Sorts::from_vec(Vec::new(alloc)),
-            cod: Sorts::from_vec(Vec::new(alloc)),
-        }),
+    match env.lookup(text_at(chunk.first, chunk.tokens, token)) {
+        Some(entry) => shape_of_meaning(alloc, &entry.meaning),
+        None => Ok(no_wires(alloc)),
+    }
+}
+
+// The type of the term of a meaning, empty where it has none.
+fn shape_of_meaning(alloc: Global, meaning: &Meaning) -> Result<Shape, NoMemory>
+    ensures { IfOk result (λ shape. IsShape shape (term_of (sense_of meaning.now))) }
+{
+    match meaning {
+        Meaning::Generator(_, shape) => share_shape(shape),
+        Meaning::Abbrev(term) => share_shape(term.shape()),
+        Meaning::Law(_) | Meaning::Unproved | Meaning::Broken => Ok(no_wires(alloc)),
+    }
+}
+
+// The type of the empty diagram.
+fn no_wires(alloc: Global) -> Shape
+    ensures { IsShape result empty }
+{
+    Shape {
+        dom: Sorts::from_vec(Vec::new(alloc)),
+        cod: Sorts::from_vec(Vec::new(alloc)),
     }
 }

@@ -1,7 +1,7 @@
 -- Tests of terms that have to have the type of a first one.
 use Rattle.std.proofs.Common.{◌≡◌, ℕ, ◌+◌, ◌<◌, ◌≤◌, List, [], ◌∷◌, ◌++◌, map, length, take, drop, slice_index_or, All, Option, None, Some, refl, sym, ap, subst, ◌∙◌, Result, Ok, Err, OnOk}
 use Rattle.std.proofs.lemmas.List.{map-append, take_all, append_assoc, append-nil}
-use Rattle.std.proofs.lemmas.List.Elements.{All-nil, All-cons, All-append}
+use Rattle.std.proofs.lemmas.List.Elements.{All-nil, All-cons, All-head, All-append}
 use Rattle.chyp_syntax.specs.declared.statement.Ast.{Ast}
 use Rattle.chyp_syntax.specs.declared.statement.Ast.TheVariants.{RuleDecl, RewriteDecl}
 use Rattle.chyp_syntax.specs.declared.step.StepAst.{StepAst}
@@ -11,6 +11,7 @@ use Rattle.chyp_syntax.specs.Step.{StepTree, step_of}
 use Rattle.chyp_syntax.specs.Term.{TermTree, tree_of}
 use Rattle.chyp_term.specs.declared.shape.Shape.{Shape}
 use Rattle.chyp_term.specs.Derivation.{IsEquation}
+use Rattle.chyp_term.specs.Limits.{IsWithinLimits}
 use Rattle.chyp_term.specs.Morphism.{Morphism, dom, cod, IsTyped}
 use Rattle.chyp_env.specs.Shape.{IsShape}
 use Rattle.chyp_env.specs.Site.{Site, meaning_at}
@@ -29,20 +30,21 @@ on_ok P Q f (Ok x) h = f h
 on_ok P Q f (Err e) h = tt
 
 -- a term whose own test fails
-pub fails_inside : (site : Site) (shape : Shape) (equals : ℕ) (tree : TermTree) (token : ℕ) → FailsFirst (tests_of (meaning_at site) tree) token → Disagrees site shape equals tree token
-fails_inside site shape equals tree token fails = λ first is. fails-front (tests_of (meaning_at site) tree) ((equals, agrees first (expansion_at site tree)) ∷ []) token fails
+pub fails_inside : (site : Site) (first : Morphism) (equals : ℕ) (tree : TermTree) (token : ℕ) → FailsFirst (tests_of (meaning_at site) tree) token
+    → Disagrees site first equals tree token
+fails_inside site first equals tree token fails = fails-front (tests_of (meaning_at site) tree) ((equals, agrees first (expansion_at site tree)) ∷ []) token fails
 
 -- a term of another type
-pub fails_at_equals : (site : Site) (shape other : Shape) (equals : ℕ) (tree : TermTree) → AllHold (tests_of (meaning_at site) tree) → IsShape other (expansion_at site tree)
-    → ((other.dom ≡ shape.dom) × (other.cod ≡ shape.cod) → ⊥) → Disagrees site shape equals tree equals
-fails_at_equals site shape other equals tree hold is apart = λ first its.
+pub fails_at_equals : (site : Site) (shape other : Shape) (first : Morphism) (equals : ℕ) (tree : TermTree) → AllHold (tests_of (meaning_at site) tree)
+    → IsShape other (expansion_at site tree) → IsShape shape first → ((other.dom ≡ shape.dom) × (other.cod ≡ shape.cod) → ⊥) → Disagrees site first equals tree equals
+fails_at_equals site shape other first equals tree hold is its apart =
     fails-behind (tests_of (meaning_at site) tree) ((equals, agrees first (expansion_at site tree)) ∷ []) equals hold
     (fails-here equals (agrees first (expansion_at site tree)) [] (λ same. apart (is.dom ∙ sym same.0 ∙ sym its.dom, is.cod ∙ sym same.1 ∙ sym its.cod)))
 
 -- a term of the same type
-pub agrees_there : (site : Site) (shape other : Shape) (equals : ℕ) (tree : TermTree) → AllHold (tests_of (meaning_at site) tree) → IsShape other (expansion_at site tree)
-    → (other.dom ≡ shape.dom) × (other.cod ≡ shape.cod) → Agrees site shape equals tree
-agrees_there site shape other equals tree hold is same = λ first its.
+pub agrees_there : (site : Site) (shape other : Shape) (first : Morphism) (equals : ℕ) (tree : TermTree) → AllHold (tests_of (meaning_at site) tree)
+    → IsShape other (expansion_at site tree) → IsShape shape first → (other.dom ≡ shape.dom) × (other.cod ≡ shape.cod) → Agrees site first equals tree
+agrees_there site shape other first equals tree hold is its same =
     let doms : dom first ≡ dom (expansion_at site tree) = sym its.dom ∙ sym same.0 ∙ is.dom in
     let cods : cod first ≡ cod (expansion_at site tree) = sym its.cod ∙ sym same.1 ∙ is.cod in (
       hold-both (tests_of (meaning_at site) tree) ((equals, agrees first (expansion_at site tree)) ∷ []) hold
@@ -50,17 +52,23 @@ agrees_there site shape other equals tree hold is same = λ first its.
       record { left = its.typed; right = is.typed; doms = doms; cods = cods },
     )
 
-module _ (site : Site) (shape : Shape) (step : StepAst) (goal : TermAst) (there : step.goal ≡ Some goal) where
+module _ (site : Site) (first : Morphism) (step : StepAst) (goal : TermAst) (there : step.goal ≡ Some goal) where
   -- the goal of one step
-  pub one_agrees : Agrees site shape step.equals (tree_of goal) → StepsAgree site shape (step ∷ [])
-  one_agrees h = λ first is.
+  pub one_agrees : Agrees site first step.equals (tree_of goal) → StepsAgree site first (step ∷ [])
+  one_agrees h =
       rw there (
-        subst AllHold (sym (append-nil (tests_of_other (meaning_at site) first step.equals (tree_of goal)))) (h first is).0,
-        All-cons (IsEquation first) (expansion_at site (tree_of goal)) [] (h first is).1 (All-nil (IsEquation first)),
+        subst AllHold (sym (append-nil (tests_of_other (meaning_at site) first step.equals (tree_of goal)))) h.0,
+        All-cons (IsEquation first) (expansion_at site (tree_of goal)) [] h.1 (All-nil (IsEquation first)),
       )
 
-  pub one_disagrees : (token : ℕ) → Disagrees site shape step.equals (tree_of goal) token → StepsDisagree site shape (step ∷ []) token
-  one_disagrees token h = λ first is. rw there (fails-front (tests_of_other (meaning_at site) first step.equals (tree_of goal)) [] token (h first is))
+  pub one_disagrees : (token : ℕ) → Disagrees site first step.equals (tree_of goal) token → StepsDisagree site first (step ∷ []) token
+  one_disagrees token h = rw there (fails-front (tests_of_other (meaning_at site) first step.equals (tree_of goal)) [] token h)
+
+  pub one_term : (terms : List Morphism) → terms ++ expansion_at site (tree_of goal) ∷ [] ≡ terms ++ goal_terms site (step ∷ [])
+  one_term terms = rw there refl
+
+  pub one_small : All IsWithinLimits (goal_terms site (step ∷ [])) → IsWithinLimits (expansion_at site (tree_of goal))
+  one_small small = All-head IsWithinLimits (expansion_at site (tree_of goal)) [] (subst (All IsWithinLimits) (sym (one_term [])) small)
 
 tests_of_steps-append : (meaning : ℕ → Morphism) (first : Morphism) (xs ys : List StepTree)
     → tests_of_steps meaning first (xs ++ ys) ≡ tests_of_steps meaning first xs ++ tests_of_steps meaning first ys
@@ -74,32 +82,33 @@ tests_of_steps-append meaning first (x ∷ xs) ys = go x.goal refl (tests_of_ste
         rw e (ap (λ ts. tests_of_other meaning first x.equals tree ++ ts) rest
         ∙ sym (append_assoc (tests_of_other meaning first x.equals tree) (tests_of_steps meaning first xs) (tests_of_steps meaning first ys)))
 
-module _ (site : Site) (shape : Shape) where
-  split : (first : Morphism) (steps others : List StepAst)
-      → tests_of_steps (meaning_at site) first (map step_of (steps ++ others)) ≡ tests_of_steps (meaning_at site) first (map step_of steps) ++ tests_of_steps (meaning_at site) first (map step_of others)
-  split first steps others = ap (tests_of_steps (meaning_at site) first) (map-append step_of steps others) ∙ tests_of_steps-append (meaning_at site) first (map step_of steps) (map step_of others)
+module _ (site : Site) (first : Morphism) where
+  split : (steps others : List StepAst)
+      → tests_of_steps (meaning_at site) first (map step_of (steps ++ others)) ≡ tests_of_steps (meaning_at site) first (map step_of steps) ++ tests_of_steps (meaning_at site) first
+          (map step_of others)
+  split steps others = ap (tests_of_steps (meaning_at site) first) (map-append step_of steps others) ∙ tests_of_steps-append (meaning_at site) first (map step_of steps) (map step_of others)
 
-  both_agree : (steps others : List StepAst) → StepsAgree site shape steps → StepsAgree site shape others → StepsAgree site shape (steps ++ others)
-  both_agree steps others f g = λ first is. (
-    subst AllHold (sym (split first steps others)) (hold-both (tests_of_steps (meaning_at site) first (map step_of steps)) (tests_of_steps (meaning_at site) first (map step_of others)) (f first is).0 (g first is).0),
-    subst (All (IsEquation first)) (sym (goal_terms-append site steps others)) (All-append (IsEquation first) (goal_terms site steps) (goal_terms site others) (f first is).1 (g first is).1),
+  both_agree : (steps others : List StepAst) → StepsAgree site first steps → StepsAgree site first others → StepsAgree site first (steps ++ others)
+  both_agree steps others f g = (
+    subst AllHold (sym (split steps others)) (hold-both (tests_of_steps (meaning_at site) first (map step_of steps)) (tests_of_steps (meaning_at site) first (map step_of others)) f.0 g.0),
+    subst (All (IsEquation first)) (sym (goal_terms-append site steps others)) (All-append (IsEquation first) (goal_terms site steps) (goal_terms site others) f.1 g.1),
   )
 
   pub agree_more : (steps : List StepAst) (k : ℕ) (step : StepAst) → k < length steps → step ≡ slice_index_or steps k step
-      → StepsAgree site shape (take k steps) → StepsAgree site shape (step ∷ []) → StepsAgree site shape (take (k + 1) steps)
-  agree_more steps k step within is so_far next = subst (StepsAgree site shape) (sym (take_more steps k step within is)) (both_agree (take k steps) (step ∷ []) so_far next)
+      → StepsAgree site first (take k steps) → StepsAgree site first (step ∷ []) → StepsAgree site first (take (k + 1) steps)
+  agree_more steps k step within is so_far next = subst (StepsAgree site first) (sym (take_more steps k step within is)) (both_agree (take k steps) (step ∷ []) so_far next)
 
-  pub agree_all : (steps : List StepAst) (k : ℕ) → length steps ≤ k → StepsAgree site shape (take k steps) → StepsAgree site shape steps
-  agree_all steps k end so_far = subst (StepsAgree site shape) (take_all k steps end) so_far
+  pub agree_all : (steps : List StepAst) (k : ℕ) → length steps ≤ k → StepsAgree site first (take k steps) → StepsAgree site first steps
+  agree_all steps k end so_far = subst (StepsAgree site first) (take_all k steps end) so_far
 
   pub agree_fails : (steps : List StepAst) (k : ℕ) (step : StepAst) (token : ℕ) → k < length steps → step ≡ slice_index_or steps k step
-      → StepsAgree site shape (take k steps) → StepsDisagree site shape (step ∷ []) token → StepsDisagree site shape steps token
-  agree_fails steps k step token within is so_far fails = λ first its.
+      → StepsAgree site first (take k steps) → StepsDisagree site first (step ∷ []) token → StepsDisagree site first steps token
+  agree_fails steps k step token within is so_far fails =
       let front : List StepAst = take k steps ++ step ∷ [] in
-      let there = fails-behind (tests_of_steps (meaning_at site) first (map step_of (take k steps))) (tests_of_steps (meaning_at site) first (map step_of (step ∷ []))) token (so_far first its).0 (fails first its) in
-      subst (λ ts. FailsFirst ts token) (sym (split first front (drop (k + 1) steps)) ∙ ap (λ xs. tests_of_steps (meaning_at site) first (map step_of xs)) (take_whole steps k step within is))
+      let there = fails-behind (tests_of_steps (meaning_at site) first (map step_of (take k steps))) (tests_of_steps (meaning_at site) first (map step_of (step ∷ []))) token so_far.0 fails in
+      subst (λ ts. FailsFirst ts token) (sym (split front (drop (k + 1) steps)) ∙ ap (λ xs. tests_of_steps (meaning_at site) first (map step_of xs)) (take_whole steps k step within is))
       (fails-front (tests_of_steps (meaning_at site) first (map step_of front)) (tests_of_steps (meaning_at site) first (map step_of (drop (k + 1) steps))) token
-      (subst (λ ts. FailsFirst ts token) (sym (split first (take k steps) (step ∷ []))) there))
+      (subst (λ ts. FailsFirst ts token) (sym (split (take k steps) (step ∷ []))) there))
 
 -- a first term, and others that are equations with it, are typed alike
 between : (first s t : Morphism) → IsEquation first s → IsEquation first t → IsEquation s t
@@ -112,33 +121,35 @@ alike first others typed all =
     λ k d within k' d' within'. between first _ _ (each k d within) (each k' d' within')
 
 -- the terms of a rule
-module _ (site : Site) (ast : Ast) (name : ℕ) (left : TermAst) (equals : ℕ) (right : TermAst) (shape : Shape) (is : ast ≡ RuleDecl name left equals right) where
+module _ (site : Site) (ast : Ast) (name : ℕ) (left : TermAst) (equals : ℕ) (right : TermAst) (is : ast ≡ RuleDecl name left equals right) where
   rule_tests : tests_of (meaning_at site) (tree_of left) ++ tests_of_other (meaning_at site) (expansion_at site (tree_of left)) equals (tree_of right) ≡ tests_at site (statement_of ast)
   rule_tests = ap (λ a. tests_at site (statement_of a)) (sym is)
 
-  pub rule_holds : AllHold (tests_of (meaning_at site) (tree_of left)) → IsShape shape (expansion_at site (tree_of left)) → Agrees site shape equals (tree_of right)
+  pub rule_holds : AllHold (tests_of (meaning_at site) (tree_of left)) → Agrees site (expansion_at site (tree_of left)) equals (tree_of right)
       → AllHold (tests_at site (statement_of ast))
-  rule_holds hold its h =
-      subst AllHold rule_tests (hold-both (tests_of (meaning_at site) (tree_of left)) (tests_of_other (meaning_at site) (expansion_at site (tree_of left)) equals (tree_of right)) hold (h (expansion_at site (tree_of left)) its).0)
+  rule_holds hold h =
+      subst AllHold rule_tests (hold-both (tests_of (meaning_at site) (tree_of left)) (tests_of_other (meaning_at site) (expansion_at site (tree_of left)) equals (tree_of right)) hold h.0)
 
-  pub rule_alike : IsShape shape (expansion_at site (tree_of left)) → Agrees site shape equals (tree_of right) → AreTypedAlike (terms_of site (statement_of ast))
-  rule_alike its h =
-      let other = (h (expansion_at site (tree_of left)) its).1 in
+  pub rule_alike : IsTyped (expansion_at site (tree_of left)) → Agrees site (expansion_at site (tree_of left)) equals (tree_of right) → AreTypedAlike (terms_of site (statement_of ast))
+  rule_alike typed h =
+      let other = h.1 in
       subst (λ a. AreTypedAlike (terms_of site (statement_of a))) (sym is)
-      (alike (expansion_at site (tree_of left)) (expansion_at site (tree_of right) ∷ []) its.typed (All-cons (IsEquation (expansion_at site (tree_of left))) (expansion_at site (tree_of right)) [] other (All-nil (IsEquation (expansion_at site (tree_of left))))))
+      (alike (expansion_at site (tree_of left)) (expansion_at site (tree_of right) ∷ []) typed
+          (All-cons (IsEquation (expansion_at site (tree_of left))) (expansion_at site (tree_of right)) [] other (All-nil (IsEquation (expansion_at site (tree_of left))))))
 
   pub rule_fails_left : (token : ℕ) → FailsFirst (tests_of (meaning_at site) (tree_of left)) token → FailsFirst (tests_at site (statement_of ast)) token
   rule_fails_left token fails =
-      subst (λ ts. FailsFirst ts token) rule_tests (fails-front (tests_of (meaning_at site) (tree_of left)) (tests_of_other (meaning_at site) (expansion_at site (tree_of left)) equals (tree_of right)) token fails)
-
-  pub rule_fails_right : (token : ℕ) → AllHold (tests_of (meaning_at site) (tree_of left)) → IsShape shape (expansion_at site (tree_of left)) → Disagrees site shape equals (tree_of right) token
-      → FailsFirst (tests_at site (statement_of ast)) token
-  rule_fails_right token hold its fails =
       subst (λ ts. FailsFirst ts token) rule_tests
-      (fails-behind (tests_of (meaning_at site) (tree_of left)) (tests_of_other (meaning_at site) (expansion_at site (tree_of left)) equals (tree_of right)) token hold (fails (expansion_at site (tree_of left)) its))
+          (fails-front (tests_of (meaning_at site) (tree_of left)) (tests_of_other (meaning_at site) (expansion_at site (tree_of left)) equals (tree_of right)) token fails)
+
+  pub rule_fails_right : (token : ℕ) → AllHold (tests_of (meaning_at site) (tree_of left)) → Disagrees site (expansion_at site (tree_of left)) equals (tree_of right) token
+      → FailsFirst (tests_at site (statement_of ast)) token
+  rule_fails_right token hold fails =
+      subst (λ ts. FailsFirst ts token) rule_tests
+      (fails-behind (tests_of (meaning_at site) (tree_of left)) (tests_of_other (meaning_at site) (expansion_at site (tree_of left)) equals (tree_of right)) token hold fails)
 
 -- the terms of a rewrite
-module _ (site : Site) (ast : Ast) (name : ℕ) (first : TermAst) (steps items : List StepAst) (shape : Shape) (is : ast ≡ RewriteDecl name first steps) (same : items ≡ steps) where
+module _ (site : Site) (ast : Ast) (name : ℕ) (first : TermAst) (steps items : List StepAst) (is : ast ≡ RewriteDecl name first steps) (same : items ≡ steps) where
   abbrev start : Morphism
   start = expansion_at site (tree_of first)
 
@@ -148,16 +159,16 @@ module _ (site : Site) (ast : Ast) (name : ℕ) (first : TermAst) (steps items :
   rewrite_tests : tests_of (meaning_at site) (tree_of first) ++ behind ≡ tests_at site (statement_of ast)
   rewrite_tests = ap (λ xs. tests_of (meaning_at site) (tree_of first) ++ tests_of_steps (meaning_at site) start (map step_of xs)) same ∙ ap (λ a. tests_at site (statement_of a)) (sym is)
 
-  pub rewrite_holds : AllHold (tests_of (meaning_at site) (tree_of first)) → IsShape shape start → StepsAgree site shape items → AllHold (tests_at site (statement_of ast))
-  rewrite_holds hold its h = subst AllHold rewrite_tests (hold-both (tests_of (meaning_at site) (tree_of first)) behind hold (h start its).0)
+  pub rewrite_holds : AllHold (tests_of (meaning_at site) (tree_of first)) → StepsAgree site start items → AllHold (tests_at site (statement_of ast))
+  rewrite_holds hold h = subst AllHold rewrite_tests (hold-both (tests_of (meaning_at site) (tree_of first)) behind hold h.0)
 
-  pub rewrite_alike : IsShape shape start → StepsAgree site shape items → AreTypedAlike (terms_of site (statement_of ast))
-  rewrite_alike its h =
-      subst (λ a. AreTypedAlike (terms_of site (statement_of a))) (sym is) (subst (λ xs. AreTypedAlike (start ∷ goal_terms site xs)) same (alike start (goal_terms site items) its.typed (h start its).1))
+  pub rewrite_alike : IsTyped start → StepsAgree site start items → AreTypedAlike (terms_of site (statement_of ast))
+  rewrite_alike typed h =
+      subst (λ a. AreTypedAlike (terms_of site (statement_of a))) (sym is) (subst (λ xs. AreTypedAlike (start ∷ goal_terms site xs)) same (alike start (goal_terms site items) typed h.1))
 
   pub rewrite_fails_first : (token : ℕ) → FailsFirst (tests_of (meaning_at site) (tree_of first)) token → FailsFirst (tests_at site (statement_of ast)) token
   rewrite_fails_first token fails = subst (λ ts. FailsFirst ts token) rewrite_tests (fails-front (tests_of (meaning_at site) (tree_of first)) behind token fails)
 
-  pub rewrite_fails_behind : (token : ℕ) → AllHold (tests_of (meaning_at site) (tree_of first)) → IsShape shape start → StepsDisagree site shape items token
+  pub rewrite_fails_behind : (token : ℕ) → AllHold (tests_of (meaning_at site) (tree_of first)) → StepsDisagree site start items token
       → FailsFirst (tests_at site (statement_of ast)) token
-  rewrite_fails_behind token hold its fails = subst (λ ts. FailsFirst ts token) rewrite_tests (fails-behind (tests_of (meaning_at site) (tree_of first)) behind token hold (fails start its))
+  rewrite_fails_behind token hold fails = subst (λ ts. FailsFirst ts token) rewrite_tests (fails-behind (tests_of (meaning_at site) (tree_of first)) behind token hold fails)

@@ -34,11 +34,11 @@ take_whole xs k x within is = ap (λ ys. ys ++ drop (k + 1) xs) (sym (take_more 
 pub goal_terms-append : (site : Site) (steps others : List StepAst) → goal_terms site (steps ++ others) ≡ goal_terms site steps ++ goal_terms site others
 goal_terms-append site steps others = ap (filter_map (goal_term site)) (map-append step_of steps others) ∙ filter_map-append (goal_term site) (map step_of steps) (map step_of others)
 
-all_front : {X : Type 0} (P : X → Type 0) (xs ys : List X) → All P (xs ++ ys) → All P xs
+pub all_front : {X : Type 0} (P : X → Type 0) (xs ys : List X) → All P (xs ++ ys) → All P xs
 all_front P [] ys h = All-nil P
 all_front P (x ∷ xs) ys h = All-cons P x xs (All-head P x (xs ++ ys) h) (all_front P xs ys (All-tail P x (xs ++ ys) h))
 
-all_behind : {X : Type 0} (P : X → Type 0) (xs ys : List X) → All P (xs ++ ys) → All P ys
+pub all_behind : {X : Type 0} (P : X → Type 0) (xs ys : List X) → All P (xs ++ ys) → All P ys
 all_behind P [] ys h = h
 all_behind P (x ∷ xs) ys h = all_behind P xs ys (All-tail P x (xs ++ ys) h)
 
@@ -99,7 +99,8 @@ decided site ast (Some sum) few is =
 decided site ast None few is =
     (λ t. absurd (true≢false (sym t)), λ small. absurd (is (record { each = small.each; together = let h = small.together in omega arith })))
 
-pub let_decided : (site : Site) (ast : Ast) (name : ℕ) (tree : TermAst) (sum : Option ℕ) → ast ≡ LetDecl name tree → IsSum 0 (expansion_at site (tree_of tree) ∷ []) sum → IsDecided site ast (is_some sum)
+pub let_decided : (site : Site) (ast : Ast) (name : ℕ) (tree : TermAst) (sum : Option ℕ) → ast ≡ LetDecl name tree → IsSum 0 (expansion_at site (tree_of tree) ∷ []) sum
+    → IsDecided site ast (is_some sum)
 let_decided site ast name tree sum e is = subst (λ a. IsDecided site a (is_some sum)) (sym e) (decided site (LetDecl name tree) sum tt is)
 
 pub rule_decided : (site : Site) (ast : Ast) (name : ℕ) (left : TermAst) (equals : ℕ) (right : TermAst) (sum : Option ℕ) → ast ≡ RuleDecl name left equals right
@@ -109,4 +110,5 @@ rule_decided site ast name left equals right sum e is = subst (λ a. IsDecided s
 pub rewrite_decided : (site : Site) (ast : Ast) (name : ℕ) (first : TermAst) (steps items : List StepAst) (sum : Option ℕ) → ast ≡ RewriteDecl name first steps → items ≡ steps
     → IsSum 0 (expansion_at site (tree_of first) ∷ goal_terms site items) sum → IsDecided site ast (is_some sum)
 rewrite_decided site ast name first steps items sum e same is =
-    subst (λ a. IsDecided site a (is_some sum)) (sym e) (decided site (RewriteDecl name first steps) sum tt (subst (λ xs. IsSum 0 (expansion_at site (tree_of first) ∷ goal_terms site xs) sum) same is))
+    subst (λ a. IsDecided site a (is_some sum)) (sym e)
+        (decided site (RewriteDecl name first steps) sum tt (subst (λ xs. IsSum 0 (expansion_at site (tree_of first) ∷ goal_terms site xs) sum) same is))

@@ -1,7 +1,7 @@
 -- The names and the terms that a statement makes.
-use Rattle.std.proofs.Common.{◌≡◌, ℕ, ◌+◌, ◌<◌, List, [], ◌∷◌, ◌++◌, map, length, take, slice_index_or, All, Option, None, Some, refl, sym, ap, subst, ◌∙◌, Bool, true, false, ◌&&◌, true≢false, is_some, unwrap_or, cond, ◌==◌, append_assoc}
+use Rattle.std.proofs.Common.{◌≡◌, ℕ, ◌+◌, ◌<◌, ◌≤◌, List, [], ◌∷◌, ◌++◌, map, length, take, drop, slice_index_or, All, Option, None, Some, refl, sym, ap, subst, ◌∙◌, Bool, true, false, ◌&&◌, true≢false, is_some, unwrap_or, cond, ◌==◌, append_assoc}
 use Rattle.std.specs.Str.{IsUtf8}
-use Rattle.std.proofs.lemmas.List.Elements.{All-nil, All-cons, All-head, All-tail}
+use Rattle.std.proofs.lemmas.List.Elements.{All-head, All-tail}
 use Rattle.chyp_lex.specs.declared.token.Token.{Token}
 use Rattle.chyp_lex.specs.declared.token.TokenKind.{TokenKind}
 use Rattle.chyp_lex.specs.declared.token.TokenKind.TheVariants.{Ident, WordGen, WordLet, WordRule, WordRewrite, WordImport, WordShow}
@@ -14,18 +14,19 @@ use Rattle.chyp_syntax.specs.Heading.{declares, is_identifier, declared_name, te
 use Rattle.chyp_syntax.specs.Numbered.{NumberedToken, kind_of}
 use Rattle.chyp_syntax.specs.Sentence.{IsStatement, IsSentence, is_gen, is_let, is_rule, is_rewrite, is_import, is_import_as, is_show}
 use Rattle.chyp_syntax.specs.Statement.{StatementTree, generator, definition, rule, rewrite, inclusion, showing, statement_of}
-use Rattle.chyp_syntax.specs.Step.{step_of}
 use Rattle.chyp_syntax.specs.Term.{tree_of}
-use Rattle.chyp_term.specs.Morphism.{Morphism}
+use Rattle.chyp_base.specs.declared.sort.Sort.{Sort}
+use Rattle.chyp_term.specs.Limits.{IsWithinLimits}
+use Rattle.chyp_term.specs.Morphism.{Morphism, generator as a_generator}
 use Rattle.chyp_env.specs.declared.chunk_view.ChunkView.{ChunkView}
 use Rattle.chyp_env.specs.ChunkView.{IsLent}
-use Rattle.chyp_env.specs.Site.{Site, meaning_at}
-use Rattle.chyp_env.specs.Typing.{Test, agrees, AllHold, tests_of}
-use Rattle.chyp_env.proofs.Holding.{hold-front, hold-behind}
-use Rattle.chyp_names.specs.Elaboration.{expansion_at, tests_at, generator_name}
-use Rattle.chyp_names.specs.Goals.{GoalHolds, goal_terms}
-use Rattle.chyp_names.specs.Typing.{tests_of_other, tests_of_steps}
-use Rattle.chyp_names.proofs.Goals.{take_more, goal_terms-append}
+use Rattle.chyp_env.specs.Site.{Site}
+use Rattle.chyp_env.specs.declared.sizes.Sizes.{Sizes}
+use Rattle.chyp_env.specs.Sizes.{AreSizes}
+use Rattle.chyp_names.specs.Elaboration.{expansion_at, generator_name, terms_of}
+use Rattle.chyp_names.specs.Goals.{goal_terms}
+use Rattle.chyp_names.specs.Limits.{AreWithinLimits}
+use Rattle.chyp_names.proofs.Goals.{all_front, all_behind, take_more, take_whole, goal_terms-append}
 
 -- the keyword of a statement
 abbrev pub keyword_for : StatementTree → TokenKind
@@ -103,54 +104,42 @@ declared_spelled chunk name lent = go chunk.tokens.now lent.spelled
         tell (declares first.kind && is_identifier second.kind) second (All-head P second rest (All-tail P first (second ∷ rest) spelled))
         (λ t. identifier_kind second.kind (both_true (declares first.kind) (is_identifier second.kind) t)) e
 
--- the goals of steps whose tests hold
-goals_hold : (site : Site) (first : Morphism) (steps : List StepAst) → AllHold (tests_of_steps (meaning_at site) first (map step_of steps)) → All (GoalHolds site) steps
-goals_hold site first [] h = All-nil (GoalHolds site)
-goals_hold site first (step ∷ steps) h = go step.goal refl (goals_hold site first steps)
-  where
-    behind : List Test
-    behind = tests_of_steps (meaning_at site) first (map step_of steps)
+-- the terms of a statement within the limits are so
+each_small : (site : Site) (ast tree : Ast) → ast ≡ tree → AreWithinLimits (statement_of ast) (terms_of site (statement_of ast))
+    → All IsWithinLimits (terms_of site (statement_of tree))
+each_small site ast tree is small = subst (λ a. All IsWithinLimits (terms_of site (statement_of a))) is small.each
 
-    none : step.goal ≡ None → tests_of_steps (meaning_at site) first (map step_of (step ∷ steps)) ≡ behind
-    none e = rw e refl
+module _ (site : Site) (ast : Ast) (name : ℕ) (left : TermAst) (equals : ℕ) (right : TermAst) (is : ast ≡ RuleDecl name left equals right)
+    (small : AreWithinLimits (statement_of ast) (terms_of site (statement_of ast))) where
+  sides : All IsWithinLimits (expansion_at site (tree_of left) ∷ expansion_at site (tree_of right) ∷ [])
+  sides = each_small site ast (RuleDecl name left equals right) is small
 
-    some : (tree : TermAst) → step.goal ≡ Some tree
-        → tests_of_steps (meaning_at site) first (map step_of (step ∷ steps)) ≡ tests_of_other (meaning_at site) first step.equals (tree_of tree) ++ behind
-    some tree e = rw e refl
+  pub right_small : IsWithinLimits (expansion_at site (tree_of right))
+  right_small =
+      All-head IsWithinLimits (expansion_at site (tree_of right)) []
+      (All-tail IsWithinLimits (expansion_at site (tree_of left)) (expansion_at site (tree_of right) ∷ []) sides)
 
-    go : (o : Option TermAst) → step.goal ≡ o → (AllHold behind → All (GoalHolds site) steps) → All (GoalHolds site) (step ∷ steps)
-    go None e rest = All-cons (GoalHolds site) step steps (rw e tt) (rest (subst AllHold (none e) h))
-    go (Some tree) e rest =
-        let both = subst AllHold (some tree e) h in
-        let goal = hold-front (tests_of_other (meaning_at site) first step.equals (tree_of tree)) behind both in
-        All-cons (GoalHolds site) step steps
-        (rw e (hold-front (tests_of (meaning_at site) (tree_of tree)) ((step.equals, agrees first (expansion_at site (tree_of tree))) ∷ []) goal))
-        (rest (hold-behind (tests_of_other (meaning_at site) first step.equals (tree_of tree)) behind both))
+module _ (site : Site) (ast : Ast) (name : ℕ) (first : TermAst) (steps : List StepAst) (is : ast ≡ RewriteDecl name first steps)
+    (small : AreWithinLimits (statement_of ast) (terms_of site (statement_of ast))) where
+  all_small : All IsWithinLimits (expansion_at site (tree_of first) ∷ goal_terms site steps)
+  all_small = each_small site ast (RewriteDecl name first steps) is small
 
--- the tests of a rewrite
-pub first_holds : (site : Site) (ast : Ast) (name : ℕ) (first : TermAst) (steps : List StepAst) → ast ≡ RewriteDecl name first steps → AllHold (tests_at site (statement_of ast))
-    → AllHold (tests_of (meaning_at site) (tree_of first))
-first_holds site ast name first steps is h =
-    hold-front (tests_of (meaning_at site) (tree_of first)) (tests_of_steps (meaning_at site) (expansion_at site (tree_of first)) (map step_of steps)) (subst (λ a. AllHold (tests_at site (statement_of a))) is h)
+  pub goals_small : (items : List StepAst) → items ≡ steps → All IsWithinLimits (goal_terms site items)
+  goals_small items same =
+      subst (λ xs. All IsWithinLimits (goal_terms site xs)) (sym same) (All-tail IsWithinLimits (expansion_at site (tree_of first)) (goal_terms site steps) all_small)
 
-pub steps_hold : (site : Site) (ast : Ast) (name : ℕ) (first : TermAst) (steps items : List StepAst) → ast ≡ RewriteDecl name first steps → items ≡ steps
-    → AllHold (tests_at site (statement_of ast)) → All (GoalHolds site) items
-steps_hold site ast name first steps items is same h =
-    subst (All (GoalHolds site)) (sym same) (goals_hold site (expansion_at site (tree_of first)) steps
-    (hold-behind (tests_of (meaning_at site) (tree_of first)) (tests_of_steps (meaning_at site) (expansion_at site (tree_of first)) (map step_of steps)) (subst (λ a. AllHold (tests_at site (statement_of a))) is h)))
+-- so is the goal of each step
+pub goal_small : (site : Site) (steps : List StepAst) (k : ℕ) (step : StepAst) → k < length steps → step ≡ slice_index_or steps k step
+    → All IsWithinLimits (goal_terms site steps) → All IsWithinLimits (goal_terms site (step ∷ []))
+goal_small site steps k step within is small =
+    all_behind IsWithinLimits (goal_terms site (take k steps)) (goal_terms site (step ∷ []))
+    (subst (All IsWithinLimits) (goal_terms-append site (take k steps) (step ∷ []))
+    (all_front IsWithinLimits (goal_terms site (take k steps ++ step ∷ [])) (goal_terms site (drop (k + 1) steps))
+    (subst (All IsWithinLimits) (ap (goal_terms site) (sym (take_whole steps k step within is)) ∙ goal_terms-append site (take k steps ++ step ∷ []) (drop (k + 1) steps)) small)))
 
--- the tests of a rule
-module _ (site : Site) (ast : Ast) (name : ℕ) (left : TermAst) (equals : ℕ) (right : TermAst) (is : ast ≡ RuleDecl name left equals right) (h : AllHold (tests_at site (statement_of ast))) where
-  abbrev other : List Test
-  other = tests_of_other (meaning_at site) (expansion_at site (tree_of left)) equals (tree_of right)
-
-  pub left_holds : AllHold (tests_of (meaning_at site) (tree_of left))
-  left_holds = hold-front (tests_of (meaning_at site) (tree_of left)) other (subst (λ a. AllHold (tests_at site (statement_of a))) is h)
-
-  pub right_holds : AllHold (tests_of (meaning_at site) (tree_of right))
-  right_holds =
-      hold-front (tests_of (meaning_at site) (tree_of right)) ((equals, agrees (expansion_at site (tree_of left)) (expansion_at site (tree_of right))) ∷ [])
-      (hold-behind (tests_of (meaning_at site) (tree_of left)) other (subst (λ a. AllHold (tests_at site (statement_of a))) is h))
+-- the measures of a generator are those of its type
+pub generator_sizes : (sizes : Sizes) (name : List ℕ) (a b c d : List Sort) → a ≡ c → b ≡ d → AreSizes sizes (a_generator name a b) → AreSizes sizes (a_generator name c d)
+generator_sizes sizes name a b c d doms cods h = subst (λ (x : List Sort). AreSizes sizes (a_generator name x d)) doms (subst (λ (x : List Sort). AreSizes sizes (a_generator name a x)) cods h)
 
 -- the terms of a list that grows by the goal of a step
 pub goals_more : (site : Site) (first : Morphism) (terms all : List Morphism) (steps : List StepAst) (k : ℕ) (step : StepAst) → k < length steps → step ≡ slice_index_or steps k step

@@ -14,8 +14,6 @@ use Rattle.chyp_syntax.specs.Sentence.{IsSentence}
 use Rattle.chyp_syntax.specs.Statement.{StatementTree, generator as a_gen, definition, rule, rewrite, inclusion, showing}
 use Rattle.chyp_term.specs.Derivation.{empty, IsEquation}
 use Rattle.chyp_term.specs.Morphism.{Morphism}
-use Rattle.chyp_term.specs.declared.term.Term.{Term}
-use Rattle.chyp_term.specs.Term.{morphisms_of}
 use Rattle.chyp_env.specs.declared.chunk_view.ChunkView.{ChunkView}
 use Rattle.chyp_env.specs.ChunkView.{site_of}
 use Rattle.chyp_env.specs.Environment.{Sense, Binding, binding_of, is_bound}
@@ -122,7 +120,7 @@ module _ (home text : List ℕ) (env : List Binding) where
   site_at tokens = record { home = home; text = text; env = env; tokens = tokens; imported = none' }
 
   accepted_body : (tokens : List Token) (body : Body) → Declares tokens → ¬ IsRewrite tokens → Elaborates (site_at tokens) body
-      → IsFit (site_at tokens) Accepted (keyword_in tokens) (morphisms_of body.terms)
+      → IsFit (site_at tokens) Accepted (keyword_in tokens) body.terms
   accepted_body [] body d other e = absurd d
   accepted_body (first ∷ rest) body d other e =
       let kind = sentence_keyword first rest e.tree e.is_sentence in
@@ -130,7 +128,7 @@ module _ (home text : List ℕ) (env : List Binding) where
       (subst (λ k. IsFit (site_at (first ∷ rest)) Accepted (Some k) (terms_of (site_at (first ∷ rest)) e.tree)) (sym kind)
       (accepted_fit (site_at (first ∷ rest)) e.tree (ap declares (sym kind) ∙ d) (λ r. other (kind ∙ r)) e.is_sentence e.passes))
 
-  proved_body : (tokens : List Token) (body : Body) → IsRewrite tokens → Elaborates (site_at tokens) body → IsFit (site_at tokens) Proved (keyword_in tokens) (morphisms_of body.terms)
+  proved_body : (tokens : List Token) (body : Body) → IsRewrite tokens → Elaborates (site_at tokens) body → IsFit (site_at tokens) Proved (keyword_in tokens) body.terms
   proved_body [] body r e = absurd r
   proved_body (first ∷ rest) body r e =
       let kind = sentence_keyword first rest e.tree e.is_sentence in
@@ -157,7 +155,7 @@ module _ (home text : List ℕ) (env : List Binding) where
 
   -- the outcome of a statement that declares a name says what it stands for
   pub outcome_fit : (tokens : List Token) (body : Option Body) (verdict : Verdict) (name : List ℕ) → IsOutcome (site_at tokens) body verdict → declared_name text tokens ≡ Some name
-      → IsFit (site_at tokens) verdict (keyword_in tokens) (morphisms_of (terms_in body))
+      → IsFit (site_at tokens) verdict (keyword_in tokens) (terms_in body)
   outcome_fit tokens None Accepted name o declared = absurd (true≢false (sym (o.accepted refl).0))
   outcome_fit tokens (Some body) Accepted name o declared = accepted_body tokens body (declares_there text tokens name declared) (o.accepted refl).1 o.elaborates
   outcome_fit tokens None Proved name o declared = absurd (true≢false (sym (o.proved refl).0))
@@ -169,7 +167,7 @@ module _ (home text : List ℕ) (env : List Binding) where
   }
 
 -- the terms of a body that are typed alike, where there is a body
-pub terms_alike : (body : Option Body) → IfSome body (λ b. AreTypedAlike (morphisms_of b.terms)) → AreTypedAlike (morphisms_of (terms_in body))
+pub terms_alike : (body : Option Body) → IfSome body (λ b. AreTypedAlike b.terms) → AreTypedAlike (terms_in body)
 terms_alike None h = All-nil (λ s. All (λ t. IsEquation s t) [])
 terms_alike (Some body) h = h
 
@@ -180,21 +178,21 @@ found_bound env name entry h = ap is_some h
 -- what an outcome with this body says of a sense that is that of its terms
 module _ (home : List ℕ) (chunk : ChunkView) (env : List Binding) (body : Option Body) (verdict : Verdict) (name : List ℕ) (outcome : IsOutcome (site_of home chunk env) body verdict)
     (declared : declared_name chunk.first.now chunk.tokens.now ≡ Some name) where
-  abbrev fit : IsFit (site_of home chunk env) verdict (keyword_in chunk.tokens.now) (morphisms_of (terms_in body))
+  abbrev fit : IsFit (site_of home chunk env) verdict (keyword_in chunk.tokens.now) (terms_in body)
   fit = outcome_fit home chunk.first.now env chunk.tokens.now body verdict name outcome declared
 
   -- terms are there for it
-  pub has_terms : (keyword : Option TokenKind) (terms : List Term) → keyword ≡ keyword_in chunk.tokens.now → terms ≡ terms_in body → HasTermsFor keyword (morphisms_of terms) verdict
+  pub has_terms : (keyword : Option TokenKind) (terms : List Morphism) → keyword ≡ keyword_in chunk.tokens.now → terms ≡ terms_in body → HasTermsFor keyword terms verdict
   has_terms keyword terms k t = rw (k, t) fit.has
 
   -- it is sound
-  pub sense_sound : (sense : Sense) (keyword : Option TokenKind) (terms : List Term) → keyword ≡ keyword_in chunk.tokens.now → terms ≡ terms_in body
-      → sense ≡ sense_for keyword (morphisms_of terms) verdict → IfSome body (λ b. AreTypedAlike (morphisms_of b.terms)) → IsSoundSense sense
+  pub sense_sound : (sense : Sense) (keyword : Option TokenKind) (terms : List Morphism) → keyword ≡ keyword_in chunk.tokens.now → terms ≡ terms_in body
+      → sense ≡ sense_for keyword terms verdict → IfSome body (λ b. AreTypedAlike b.terms) → IsSoundSense sense
   sense_sound sense keyword terms k t same typed = rw (same, k, t) (fit.sound (terms_alike body typed))
 
   -- the name of the statement is bound to it
-  pub sense_binds : {T E : Type 0} (number : ℕ) (sense : Sense) (keyword : Option TokenKind) (terms : List Term) (new : List Binding) (result : Result T E) → keyword ≡ keyword_in chunk.tokens.now
-      → terms ≡ terms_in body → sense ≡ sense_for keyword (morphisms_of terms) verdict → is_bound env name ≡ false
+  pub sense_binds : {T E : Type 0} (number : ℕ) (sense : Sense) (keyword : Option TokenKind) (terms : List Morphism) (new : List Binding) (result : Result T E) → keyword ≡ keyword_in chunk.tokens.now
+      → terms ≡ terms_in body → sense ≡ sense_for keyword terms verdict → is_bound env name ≡ false
       → OnOk result (new ≡ env ++ record { name = name; origin = (home, number); sense = sense } ∷ []) → OnOk result (Binds (site_of home chunk env) number verdict new)
   sense_binds number sense keyword terms new (Ok x) k t same free is = rw (is, same, k, t) (anew declared free fit.stands)
   sense_binds number sense keyword terms new (Err e) k t same free is = tt

@@ -3,29 +3,25 @@ use Rattle.std.specs.Prelude.{ℕ, List, map, All}
 use Rattle.chyp_syntax.specs.declared.step.StepAst.{StepAst}
 use Rattle.chyp_syntax.specs.Step.{step_of}
 use Rattle.chyp_syntax.specs.Term.{TermTree}
-use Rattle.chyp_term.specs.declared.shape.Shape.{Shape}
 use Rattle.chyp_term.specs.Derivation.{IsEquation}
 use Rattle.chyp_term.specs.Morphism.{Morphism}
-use Rattle.chyp_env.specs.Shape.{IsShape}
 use Rattle.chyp_env.specs.Site.{Site, meaning_at}
 use Rattle.chyp_env.specs.Typing.{AllHold, FailsFirst}
 use Rattle.chyp_names.specs.Elaboration.{expansion_at}
 use Rattle.chyp_names.specs.Goals.{goal_terms}
 use Rattle.chyp_names.specs.Typing.{tests_of_other, tests_of_steps}
 
--- each term of this type is an equation with the term of the tree, and the tests between them hold
-abbrev pub Agrees : Site → Shape → ℕ → TermTree → Type 0
-Agrees site shape equals tree =
-    (first : Morphism) → IsShape shape first → AllHold (tests_of_other (meaning_at site) first equals tree) × IsEquation first (expansion_at site tree)
+-- the first term is an equation with the term of the tree, and the tests between them hold
+abbrev pub Agrees : Site → Morphism → ℕ → TermTree → Type 0
+Agrees site first equals tree = AllHold (tests_of_other (meaning_at site) first equals tree) × IsEquation first (expansion_at site tree)
 
--- this is the first test that fails, for each term of this type
-abbrev pub Disagrees : Site → Shape → ℕ → TermTree → ℕ → Type 0
-Disagrees site shape equals tree token = (first : Morphism) → IsShape shape first → FailsFirst (tests_of_other (meaning_at site) first equals tree) token
+-- this is the first test that fails
+abbrev pub Disagrees : Site → Morphism → ℕ → TermTree → ℕ → Type 0
+Disagrees site first equals tree token = FailsFirst (tests_of_other (meaning_at site) first equals tree) token
 
 -- the same of the goals of steps
-abbrev pub StepsAgree : Site → Shape → List StepAst → Type 0
-StepsAgree site shape steps =
-    (first : Morphism) → IsShape shape first → AllHold (tests_of_steps (meaning_at site) first (map step_of steps)) × All (IsEquation first) (goal_terms site steps)
+abbrev pub StepsAgree : Site → Morphism → List StepAst → Type 0
+StepsAgree site first steps = AllHold (tests_of_steps (meaning_at site) first (map step_of steps)) × All (IsEquation first) (goal_terms site steps)
 
-abbrev pub StepsDisagree : Site → Shape → List StepAst → ℕ → Type 0
-StepsDisagree site shape steps token = (first : Morphism) → IsShape shape first → FailsFirst (tests_of_steps (meaning_at site) first (map step_of steps)) token
+abbrev pub StepsDisagree : Site → Morphism → List StepAst → ℕ → Type 0
+StepsDisagree site first steps token = FailsFirst (tests_of_steps (meaning_at site) first (map step_of steps)) token

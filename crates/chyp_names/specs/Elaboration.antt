@@ -13,7 +13,6 @@ use Rattle.chyp_syntax.specs.Term.{TermTree}
 use Rattle.chyp_term.specs.Derivation.{empty}
 use Rattle.chyp_term.specs.Morphism.{Morphism, generator as a_generator}
 use Rattle.chyp_term.specs.Step.{Reason, by_laws, by_rule, by_simp, reasons_of}
-use Rattle.chyp_term.specs.Term.{morphisms_of}
 use Rattle.chyp_env.specs.Environment.{Sense, law, Binding}
 use Rattle.chyp_env.specs.Import.{all_passed_on, first_clash}
 use Rattle.chyp_env.specs.Expansion.{expansion_in, plain_wires}
@@ -121,6 +120,6 @@ pub data IsRefused (site : Site) (tree : StatementTree) : Verdict → Type 0 whe
 
 -- a body holds the terms and the steps of the statement, and whether a step is a hole
 pub record IsBody (site : Site) (tree : StatementTree) (body : Body) : Type 0 where
-  pub terms : morphisms_of body.terms ≡ terms_of site tree
+  pub terms : body.terms ≡ terms_of site tree
   pub steps : reasons_of body.steps ≡ steps_at site tree
   pub hole : body.hole ≡ has_hole tree

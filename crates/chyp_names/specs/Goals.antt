@@ -1,14 +1,12 @@
 -- The terms that the steps of a rewrite lead to. No public clause cites this.
-use Rattle.std.specs.Prelude.{◌≡◌, ◌+◌, ℕ, ◌≤◌, List, map, Option, None, Some, option_map, All, IfSome, sum_by}
+use Rattle.std.specs.Prelude.{◌≡◌, ◌+◌, ℕ, ◌≤◌, List, map, Option, None, Some, option_map, All, sum_by}
 use Rattle.std.specs.List.{filter_map}
 use Rattle.chyp_syntax.specs.declared.step.StepAst.{StepAst}
 use Rattle.chyp_syntax.specs.Step.{StepTree, step_of}
-use Rattle.chyp_syntax.specs.Term.{tree_of}
 use Rattle.chyp_term.specs.Measure.{size_of}
 use Rattle.chyp_term.specs.Morphism.{Morphism}
 use Rattle.chyp_term.specs.Limits.{IsWithinLimits}
-use Rattle.chyp_env.specs.Site.{Site, meaning_at}
-use Rattle.chyp_env.specs.Typing.{AllHold, tests_of}
+use Rattle.chyp_env.specs.Site.{Site}
 use Rattle.chyp_names.specs.Elaboration.{expansion_at}
 use Rattle.chyp_names.specs.Limits.{most_together}
 
@@ -29,7 +27,3 @@ pub record FitBehind (before : ℕ) (terms : List Morphism) : Type 0 where
 abbrev pub IsSum : ℕ → List Morphism → Option ℕ → Type 0
 IsSum before terms (Some sum) = FitBehind before terms × (sum ≡ before + sum_by size_of terms)
 IsSum before terms None = ¬ FitBehind before terms
-
--- the tests of the goal of a step hold
-abbrev pub GoalHolds : Site → StepAst → Type 0
-GoalHolds site step = IfSome step.goal (λ tree. AllHold (tests_of (meaning_at site) (tree_of tree)))

@@ -5,7 +5,6 @@ use Rattle.chyp_base.specs.declared.verdict.Verdict.TheVariants.{Accepted, Prove
 use Rattle.chyp_lex.specs.declared.token.Token.{Token}
 use Rattle.chyp_lex.specs.declared.token.TokenKind.{TokenKind}
 use Rattle.chyp_lex.specs.declared.token.TokenKind.TheVariants.{WordGen, WordLet, WordRewrite}
-use Rattle.chyp_term.specs.declared.term.Term.{Term}
 use Rattle.chyp_term.specs.Derivation.{empty}
 use Rattle.chyp_term.specs.Morphism.{Morphism, generator as a_generator}
 use Rattle.chyp_env.specs.Environment.{Sense, generator, abbreviation, law, unproved, broken}
@@ -16,7 +15,7 @@ abbrev pub keyword_in : List Token → Option TokenKind
 keyword_in tokens = option_map (λ token. token.kind) (slice_get tokens 0)
 
 -- the terms of a body, none where there is no body
-abbrev pub terms_in : Option Body → List Term
+abbrev pub terms_in : Option Body → List Morphism
 terms_in None = []
 terms_in (Some body) = body.terms
 

@@ -7,7 +7,7 @@ ghost use Rattle.chyp_lex.specs.declared.token.TokenKind.TheVariants.{WordGen};
 ghost use Rattle.chyp_lex.specs.Tokens.{AreSpans};
 ghost use Rattle.chyp_syntax.specs.Heading.{declared_name};
 ghost use Rattle.chyp_term.specs.Equation.{equation_of};
-ghost use Rattle.chyp_term.specs.Term.{morphism_of, morphisms_of};
+ghost use Rattle.chyp_term.specs.Term.{morphism_of};
 ghost use Rattle.chyp_env.specs.ChunkView.{IsLent, site_of};
 ghost use Rattle.chyp_env.specs.Entry.{sense_of};
 ghost use Rattle.chyp_env.specs.Environment.{is_bound};
@@ -18,10 +18,10 @@ ghost use Rattle.chyp_names.specs.Typing.{AreTypedAlike};
 
 use crate::Body;
 use chyp_base::{Name, NoMemory, Verdict};
-use chyp_env::{ChunkView, Entry, Env, Meaning, Origin};
+use chyp_env::{ChunkView, Entry, Env, KnownTerm, Meaning, Origin};
 use chyp_lex::{Token, TokenKind};
 use chyp_syntax::declared_name;
-use chyp_term::{Equation, Shape, Term, copy};
+use chyp_term::{Equation, Shape, Term};
 use std::alloc::Global;
 
 // The kind of the first token.
@@ -33,7 +33,7 @@ fn keyword(tokens: &[Token]) -> Option<TokenKind>
 }
 
 // The terms of a body, none where there is no body.
-fn terms<'a>(body: Option<&'a Body>) -> &'a [Term]
+fn terms<'a>(body: Option<&'a Body>) -> &'a [KnownTerm]
     ensures { result.now ≡ terms_in (option_copied body.entry) }
 {
     match body {
@@ -43,7 +43,7 @@ fn terms<'a>(body: Option<&'a Body>) -> &'a [Term]
 }
 
 // The terms of a body that is handed over.
-fn into_terms(alloc: Global, body: Option<Body>) -> Vec<Term>
+fn into_terms(alloc: Global, body: Option<Body>) -> Vec<KnownTerm>
     ensures { result.items ≡ terms_in body }
 {
     match body {
@@ -52,23 +52,23 @@ fn into_terms(alloc: Global, body: Option<Body>) -> Vec<Term>
     }
 }
 
-// Copies of the first and the last of some terms, one where there is one.
-fn ends(alloc: Global, terms: &[Term]) -> Result<Vec<Term>, NoMemory>
+// The first and the last of some terms, shared; one where there is one.
+fn ends(alloc: Global, terms: &[KnownTerm]) -> Result<Vec<KnownTerm>, NoMemory>
     ensures some { IfOk result (λ ends. 0 < length terms.now → 0 < length ends.items) }
-    ensures first { IfOk result (λ ends. first_of (morphisms_of ends.items) ≡ first_of (morphisms_of terms.now)) }
-    ensures last { IfOk result (λ ends. last_of (morphisms_of ends.items) ≡ last_of (morphisms_of terms.now)) }
+    ensures first { IfOk result (λ ends. first_of ends.items ≡ first_of terms.now) }
+    ensures last { IfOk result (λ ends. last_of ends.items ≡ last_of terms.now) }
 {
     match terms {
         [] => Ok(Vec::new(alloc)),
-        [only] => Ok(vec![in alloc; copy(only)?]?),
-        [first, .., last] => Ok(vec![in alloc; copy(first)?, copy(last)?]?),
+        [only] => Ok(vec![in alloc; only.share()?]?),
+        [first, .., last] => Ok(vec![in alloc; first.share()?, last.share()?]?),
     }
 }
 
-// Copies of the terms that say what a statement stands for, none where it is refused.
-fn needed(alloc: Global, terms: &[Term], verdict: &Verdict) -> Result<Vec<Term>, NoMemory>
-    ensures has { IfOk result (λ needed. (keyword : Option TokenKind) → HasTermsFor keyword (morphisms_of terms.now) verdict.now → HasTermsFor keyword (morphisms_of needed.items) verdict.now) }
-    ensures same { IfOk result (λ needed. (keyword : Option TokenKind) → sense_for keyword (morphisms_of needed.items) verdict.now ≡ sense_for keyword (morphisms_of terms.now) verdict.now) }
+// The terms, shared, that say what a statement stands for, none where it is refused.
+fn needed(alloc: Global, terms: &[KnownTerm], verdict: &Verdict) -> Result<Vec<KnownTerm>, NoMemory>
+    ensures has { IfOk result (λ needed. (keyword : Option TokenKind) → HasTermsFor keyword terms.now verdict.now → HasTermsFor keyword needed.items verdict.now) }
+    ensures same { IfOk result (λ needed. (keyword : Option TokenKind) → sense_for keyword needed.items verdict.now ≡ sense_for keyword terms.now verdict.now) }
 {
     match verdict {
         Verdict::Accepted | Verdict::Proved => ends(alloc, terms),
@@ -77,9 +77,9 @@ fn needed(alloc: Global, terms: &[Term], verdict: &Verdict) -> Result<Vec<Term>,
 }
 
 // The first of some terms.
-fn first(terms: Vec<Term>) -> Term
+fn first(terms: Vec<KnownTerm>) -> KnownTerm
     requires { 0 < length terms.items }
-    ensures { morphism_of result ≡ first_of (morphisms_of terms.items) }
+    ensures { result ≡ first_of terms.items }
 {
     match terms.into_iter().next() {
         Some(first) => first,
@@ -98,29 +98,30 @@ fn generator(term: Term) -> Meaning
     }
 }
 
-// The equation of the first and the last of some terms. A single term is copied, since it is both.
-fn equation(mut terms: Vec<Term>) -> Result<Equation, NoMemory>
+// The equation of the first and the last of some terms. A single term is shared, since it is both.
+fn equation(mut terms: Vec<KnownTerm>) -> Result<Equation, NoMemory>
     requires { 0 < length terms.items }
-    ensures { IfOk result (λ equation. equation_of equation ≡ (first_of (morphisms_of terms.items), last_of (morphisms_of terms.items))) }
+    ensures { IfOk result (λ equation. equation_of equation ≡ (first_of terms.items, last_of terms.items)) }
 {
     let Some(right) = terms.pop() else {
         unreachable!()
     };
     let left = match terms.into_iter().next() {
         Some(left) => left,
-        None => copy(&right)?,
+        None => right.share()?,
     };
+    let (left, right) = (left.into_term(), right.into_term());
     Ok(Equation { left, right })
 }
 
 // What an accepted statement with these terms stands for.
-fn accepted(keyword: Option<TokenKind>, terms: Vec<Term>) -> Result<Meaning, NoMemory>
+fn accepted(keyword: Option<TokenKind>, terms: Vec<KnownTerm>) -> Result<Meaning, NoMemory>
     requires some { 0 < length terms.items }
-    requires generator { keyword ≡ Some WordGen → IsGenerator (first_of (morphisms_of terms.items)) }
-    ensures { IfOk result (λ meaning. sense_of meaning ≡ accepted_sense keyword (morphisms_of terms.items)) }
+    requires generator { keyword ≡ Some WordGen → IsGenerator (first_of terms.items) }
+    ensures { IfOk result (λ meaning. sense_of meaning ≡ accepted_sense keyword terms.items) }
 {
     match keyword {
-        Some(TokenKind::WordGen) => Ok(generator(first(terms))),
+        Some(TokenKind::WordGen) => Ok(generator(first(terms).into_term())),
         Some(TokenKind::WordLet) => Ok(Meaning::Abbrev(first(terms))),
         _ => Ok(Meaning::Law(equation(terms)?)),
     }
@@ -139,11 +140,11 @@ fn refused(keyword: Option<TokenKind>) -> Meaning
 // What a statement with these terms stands for.
 fn meaning(
     keyword: Option<TokenKind>,
-    terms: Vec<Term>,
+    terms: Vec<KnownTerm>,
     verdict: &Verdict,
 ) -> Result<Meaning, NoMemory>
-    requires { HasTermsFor keyword (morphisms_of terms.items) verdict.now }
-    ensures { IfOk result (λ meaning. sense_of meaning ≡ sense_for keyword (morphisms_of terms.items) verdict.now) }
+    requires { HasTermsFor keyword terms.items verdict.now }
+    ensures { IfOk result (λ meaning. sense_of meaning ≡ sense_for keyword terms.items verdict.now) }
 {
     match verdict {
         Verdict::Accepted => accepted(keyword, terms),
@@ -225,7 +226,7 @@ pub fn bind(
 ) -> Result<(), NoMemory>
     requires lent { IsLent chunk.now }
     requires outcome { IsOutcome (site_of «module».now chunk.now env.old) (option_copied body) verdict.now }
-    requires typed { IfSome (option_copied body) (λ body. AreTypedAlike (morphisms_of body.terms)) }
+    requires typed { IfSome (option_copied body) (λ body. AreTypedAlike body.terms) }
     ensures ok { OnOk result (Binds (site_of «module».now chunk.now env.old) index verdict.now env.new) }
     ensures err { OnErr result (env.new ≡ env.old) }
 {
@@ -239,7 +240,7 @@ pub fn bind(
 }
 
 /// Binds the name of a statement as [`bind`] does, and moves the terms of its body into the environment
-/// in place of copying them.
+/// in place of sharing them.
 ///
 /// # Errors
 ///
@@ -254,7 +255,7 @@ pub fn bind_owned(
 ) -> Result<(), NoMemory>
     requires lent { IsLent chunk.now }
     requires outcome { IsOutcome (site_of «module».now chunk.now env.old) body verdict.now }
-    requires typed { IfSome body (λ body. AreTypedAlike (morphisms_of body.terms)) }
+    requires typed { IfSome body (λ body. AreTypedAlike body.terms) }
     ensures ok { OnOk result (Binds (site_of «module».now chunk.now env.old) index verdict.now env.new) }
     ensures err { OnErr result (env.new ≡ env.old) }
 {

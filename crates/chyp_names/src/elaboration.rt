@@ -4,22 +4,19 @@ ghost use Rattle.std.specs.List.{list_any};
 ghost use Rattle.chyp_base.specs.declared.verdict.Verdict.{Verdict};
 ghost use Rattle.chyp_syntax.specs.Sentence.{IsSentence};
 ghost use Rattle.chyp_syntax.specs.Statement.{statement_of};
-ghost use Rattle.chyp_term.specs.Term.{morphisms_of};
 ghost use Rattle.chyp_env.specs.ChunkView.{IsLent, site_of};
-ghost use Rattle.chyp_env.specs.PlainWires.{ArePlain};
 ghost use Rattle.chyp_env.specs.Site.{is_declared};
 ghost use Rattle.chyp_names.specs.Elaboration.{IsBody, IsRefused, Passes, has_hole, import_fault, is_import};
 ghost use Rattle.chyp_names.specs.Naming.{first_fault};
 ghost use Rattle.chyp_names.specs.Typing.{AreTypedAlike};
 
-use crate::agreement::types_agree;
 use crate::limits::is_small;
 use crate::naming::{first_fault, first_unproved};
 use crate::steps::steps;
 use crate::terms::terms;
 use crate::{Body, ElabError};
-use chyp_base::{Name, NoMemory, Verdict};
-use chyp_env::{ChunkView, Env, PlainWires, TypeFault};
+use chyp_base::{Name, Verdict};
+use chyp_env::{ChunkView, Env, TypeFault};
 use chyp_syntax::{Ast, StepAst, declared_name};
 use std::alloc::Global;
 
@@ -76,33 +73,12 @@ fn has_hole(ast: &Ast) -> bool
     }
 }
 
-// The body of a statement that nothing refuses.
-fn body(
-    alloc: Global,
-    plain: &PlainWires,
-    module: &Name,
-    ast: &Ast,
-    chunk: &ChunkView<'_>,
-    env: &Env,
-) -> Result<Body, NoMemory>
-    requires lent { IsLent chunk.now }
-    requires plain { ArePlain plain.now }
-    requires sentence { IsSentence chunk.now.tokens.now (statement_of ast.now) }
-    requires passes { Passes (site_of «module».now chunk.now env.now) (statement_of ast.now) }
-    ensures { IfOk result (IsBody (site_of «module».now chunk.now env.now) (statement_of ast.now)) }
-{
-    Ok(Body {
-        terms: terms(alloc, plain, module, ast, chunk, env)?,
-        steps: steps(alloc, ast, chunk, env)?,
-        hole: has_hole(ast),
-    })
-}
-
 /// What a statement means behind statements that have made this environment, in the module of this
 /// name, which is empty for the main text. `ast` is the tree of the statement.
 ///
-/// The terms of the body are typed, and all have one type. A statement that is too big is refused
-/// before any of its terms is made.
+/// The terms of the body are typed, and all have one type. Their types and their measures are found
+/// here, and go with them from then on. A statement that is too big is refused before any of its terms
+/// is made.
 ///
 /// # Errors
 ///
@@ -121,7 +97,7 @@ pub fn elaborate(
     requires lent { IsLent chunk.now }
     ensures passes { OnOk result (Passes (site_of «module».now chunk.now env.now) (statement_of ast.now)) }
     ensures body { IfOk result (IsBody (site_of «module».now chunk.now env.now) (statement_of ast.now)) }
-    ensures typed { IfOk result (λ body. AreTypedAlike (morphisms_of body.terms)) }
+    ensures typed { IfOk result (λ body. AreTypedAlike body.terms) }
     ensures refused { (verdict : Verdict) → result ≡ Err (ElabError.Refused verdict) →
         IsRefused (site_of «module».now chunk.now env.now) (statement_of ast.now) verdict }
 {
@@ -132,15 +108,19 @@ pub fn elaborate(
         return Err(ElabError::Refused(Verdict::TooBig));
     }
     let plain = env.plain_wires()?;
-    match types_agree(alloc, &plain, ast, chunk, env) {
-        Ok(()) => {}
+    let terms = match terms(alloc, &plain, module, ast, chunk, env) {
+        Ok(terms) => terms,
         Err(TypeFault::Fails { token }) => {
             return Err(ElabError::Refused(Verdict::Mistyped { token }));
         }
         Err(TypeFault::NoMemory) => return Err(ElabError::NoMemory),
-    }
+    };
     if let Some(token) = first_unproved(ast, chunk, env) {
         return Err(ElabError::Refused(Verdict::Unproved { token }));
     }
-    Ok(body(alloc, &plain, module, ast, chunk, env)?)
+    Ok(Body {
+        terms,
+        steps: steps(alloc, ast, chunk, env)?,
+        hole: has_hole(ast),
+    })
 }

@@ -1,22 +1,24 @@
-// The terms of statements, made.
-ghost use Rattle.std.specs.Prelude.{◌≡◌, ◌≤◌, ◌++◌, [], ◌∷◌, All, IfOk, IsUtf8};
+// The terms of statements, typed and made.
+ghost use Rattle.std.specs.Prelude.{◌≡◌, ◌≤◌, ◌↔◌, ◌++◌, ℕ, List, [], ◌∷◌, All, IfOk, IsTrue, IsUtf8, OnOk, Err};
 ghost use Rattle.chyp_syntax.specs.Sentence.{IsSentence};
 ghost use Rattle.chyp_syntax.specs.Statement.{statement_of};
+ghost use Rattle.chyp_syntax.specs.Term.{tree_of};
+ghost use Rattle.chyp_term.specs.Limits.{IsWithinLimits, most_ports};
 ghost use Rattle.chyp_term.specs.Morphism.{generator as a_generator};
-ghost use Rattle.chyp_term.specs.Term.{morphism_of, morphisms_of};
 ghost use Rattle.chyp_env.specs.ChunkView.{IsLent, site_of};
 ghost use Rattle.chyp_env.specs.Expansion.{plain_wires};
-ghost use Rattle.chyp_term.specs.Limits.{most_ports};
 ghost use Rattle.chyp_env.specs.PlainWires.{ArePlain};
-ghost use Rattle.chyp_env.specs.Typing.{AllHold};
-ghost use Rattle.chyp_names.specs.Elaboration.{generator_name, terms_of, tests_at};
-ghost use Rattle.chyp_names.specs.Goals.{GoalHolds, goal_terms};
-ghost use Rattle.chyp_names.specs.Limits.{HasFewPorts};
+ghost use Rattle.chyp_env.specs.Typing.{AllHold, FailsFirst};
+ghost use Rattle.chyp_names.specs.Agreement.{Agrees, Disagrees, StepsAgree, StepsDisagree};
+ghost use Rattle.chyp_names.specs.Elaboration.{expansion_at, generator_name, terms_of, tests_at};
+ghost use Rattle.chyp_names.specs.Goals.{goal_terms};
+ghost use Rattle.chyp_names.specs.Limits.{AreWithinLimits};
+ghost use Rattle.chyp_names.specs.Typing.{AreTypedAlike};
 
 use chyp_base::{Name, NoMemory};
-use chyp_env::{ChunkView, Env, PlainWires, expand};
-use chyp_syntax::{Ast, StepAst, text_at};
-use chyp_term::{Term, Terms};
+use chyp_env::{ChunkView, Env, KnownTerm, KnownTerms, PlainWires, TypeFault, sizes_of_generator};
+use chyp_syntax::{Ast, StepAst, TermAst, text_at};
+use chyp_term::{Shape, Term};
 use std::alloc::Global;
 
 // The name of a generator in terms: its identifier, in a module behind the module's name.
@@ -42,82 +44,136 @@ fn generator(
     name: Name,
     dom: u64,
     cod: u64,
-) -> Result<Term, NoMemory>
+) -> Result<KnownTerm, NoMemory>
     requires plain { ArePlain plain.now }
     requires dom { dom ≤ most_ports }
     requires cod { cod ≤ most_ports }
-    ensures { IfOk result (λ term. morphism_of term ≡ a_generator name (plain_wires dom) (plain_wires cod)) }
+    ensures { IfOk result (λ term. term ≡ a_generator name (plain_wires dom) (plain_wires cod)) }
 {
     let dom = plain.wires(alloc, dom as usize)?;
     let cod = plain.wires(alloc, cod as usize)?;
-    Ok(Term::Gen { name, dom, cod })
+    let shape = Shape {
+        dom: dom.share()?,
+        cod: cod.share()?,
+    };
+    let sizes = sizes_of_generator(&shape);
+    KnownTerm::new(Term::Gen { name, dom, cod }, shape, sizes)
 }
 
-// Terms, and behind them the goal of a step, if it has one.
-fn with_goal(
+// Whether two types are the same.
+fn is_same(left: &Shape, right: &Shape) -> bool
+    ensures { IsTrue result ↔ (left.now.dom ≡ right.now.dom) × (left.now.cod ≡ right.now.cod) }
+{
+    left.dom == right.dom && left.cod == right.cod
+}
+
+// The term of a tree behind this `=`, where it has the type of the first term.
+fn other(
     alloc: Global,
     plain: &PlainWires,
-    mut terms: Vec<Term>,
-    step: &StepAst,
+    first: &KnownTerm,
+    equals: u32,
+    tree: &TermAst,
     chunk: &ChunkView<'_>,
     env: &Env,
-) -> Result<Vec<Term>, NoMemory>
+) -> Result<KnownTerm, TypeFault>
     requires lent { IsLent chunk.now }
     requires plain { ArePlain plain.now }
-    requires holds { GoalHolds (site_of [] chunk.now env.now) step.now }
-    ensures { IfOk result (λ all. morphisms_of all.items ≡ morphisms_of terms.items ++ goal_terms (site_of [] chunk.now env.now) (step.now ∷ [])) }
+    requires small { IsWithinLimits (expansion_at (site_of [] chunk.now env.now) (tree_of tree.now)) }
+    ensures term { IfOk result (λ term. term ≡ expansion_at (site_of [] chunk.now env.now) (tree_of tree.now)) }
+    ensures ok { OnOk result (Agrees (site_of [] chunk.now env.now) first.now equals (tree_of tree.now)) }
+    ensures fails { (token : ℕ) → result ≡ Err (TypeFault.Fails token) →
+        Disagrees (site_of [] chunk.now env.now) first.now equals (tree_of tree.now) token }
 {
-    if let Some(goal) = &step.goal {
-        terms.push(expand(alloc, plain, goal, chunk, env)?)?;
+    let term = KnownTerm::of_tree(alloc, plain, tree, chunk, env)?;
+    if is_same(term.shape(), first.shape()) {
+        Ok(term)
+    } else {
+        Err(TypeFault::Fails { token: equals })
     }
+}
+
+// Terms, and one more behind them.
+fn pushed(mut terms: Vec<KnownTerm>, term: KnownTerm) -> Result<Vec<KnownTerm>, NoMemory>
+    ensures { IfOk result (λ all. all.items ≡ terms.items ++ term ∷ []) }
+{
+    terms.push(term)?;
     Ok(terms)
 }
 
-// A first term, and behind it the goals of steps.
+// Terms, and behind them the goal of a step, if it has one, where it has the type of the first term.
+fn with_goal(
+    alloc: Global,
+    plain: &PlainWires,
+    first: &KnownTerm,
+    terms: Vec<KnownTerm>,
+    step: &StepAst,
+    chunk: &ChunkView<'_>,
+    env: &Env,
+) -> Result<Vec<KnownTerm>, TypeFault>
+    requires lent { IsLent chunk.now }
+    requires plain { ArePlain plain.now }
+    requires small { All IsWithinLimits (goal_terms (site_of [] chunk.now env.now) (step.now ∷ [])) }
+    ensures terms { IfOk result (λ all. all.items ≡ terms.items ++ goal_terms (site_of [] chunk.now env.now) (step.now ∷ [])) }
+    ensures ok { OnOk result (StepsAgree (site_of [] chunk.now env.now) first.now (step.now ∷ [])) }
+    ensures fails { (token : ℕ) → result ≡ Err (TypeFault.Fails token) →
+        StepsDisagree (site_of [] chunk.now env.now) first.now (step.now ∷ []) token }
+{
+    match &step.goal {
+        Some(goal) => {
+            let term = other(alloc, plain, first, step.equals, goal, chunk, env)?;
+            Ok(pushed(terms, term)?)
+        }
+        None => Ok(terms),
+    }
+}
+
+// A first term, and behind it the goals of steps, where they have its type.
 fn with_goals(
     alloc: Global,
     plain: &PlainWires,
-    first: Term,
+    first: &KnownTerm,
     steps: &[StepAst],
     chunk: &ChunkView<'_>,
     env: &Env,
-) -> Result<Terms, NoMemory>
+) -> Result<KnownTerms, TypeFault>
     requires lent { IsLent chunk.now }
     requires plain { ArePlain plain.now }
-    requires hold { All (GoalHolds (site_of [] chunk.now env.now)) steps.now }
-    ensures { IfOk result (λ terms. morphisms_of terms ≡ morphism_of first ∷ goal_terms (site_of [] chunk.now env.now) steps.now) }
+    requires small { All IsWithinLimits (goal_terms (site_of [] chunk.now env.now) steps.now) }
+    ensures terms { IfOk result (λ terms. terms ≡ first.now ∷ goal_terms (site_of [] chunk.now env.now) steps.now) }
+    ensures ok { OnOk result (StepsAgree (site_of [] chunk.now env.now) first.now steps.now) }
+    ensures fails { (token : ℕ) → result ≡ Err (TypeFault.Fails token) →
+        StepsDisagree (site_of [] chunk.now env.now) first.now steps.now token }
 {
-    let mut terms = Vec::new(alloc);
-    terms.push(first)?;
+    let mut terms = pushed(Vec::new(alloc), first.share()?)?;
     for step in steps {
-        terms = with_goal(alloc, plain, terms, step, chunk, env)?;
+        terms = with_goal(alloc, plain, first, terms, step, chunk, env)?;
     }
-    Ok(Terms::from_vec(terms))
+    Ok(KnownTerms::from_vec(terms))
 }
 
 // One term.
-fn one(alloc: Global, term: Term) -> Result<Terms, NoMemory>
-    ensures { IfOk result (λ terms. morphisms_of terms ≡ morphism_of term ∷ []) }
+fn one(alloc: Global, term: KnownTerm) -> Result<KnownTerms, NoMemory>
+    ensures { IfOk result (λ terms. terms ≡ term ∷ []) }
 {
-    let mut terms = Vec::new(alloc);
-    terms.push(term)?;
-    Ok(Terms::from_vec(terms))
+    Ok(KnownTerms::from_vec(pushed(Vec::new(alloc), term)?))
 }
 
 // Two terms.
-fn two(alloc: Global, left: Term, right: Term) -> Result<Terms, NoMemory>
-    ensures { IfOk result (λ terms. morphisms_of terms ≡ morphism_of left ∷ morphism_of right ∷ []) }
+fn two(alloc: Global, left: KnownTerm, right: KnownTerm) -> Result<KnownTerms, NoMemory>
+    ensures { IfOk result (λ terms. terms ≡ left ∷ right ∷ []) }
 {
     let mut terms = Vec::with_capacity(alloc, 2)?;
     terms.push(left)?;
     terms.push(right)?;
-    Ok(Terms::from_vec(terms))
+    Ok(KnownTerms::from_vec(terms))
 }
 
-/// The terms of a statement whose types agree, in the order of the text.
+/// The terms of a statement within the limits, in the order of the text, which all have one type.
 ///
 /// # Errors
 ///
+/// `Fails` exactly where a test of the statement fails, with the token of the first such test.
 /// `NoMemory` where the terms can't be kept.
 pub(crate) fn terms(
     alloc: Global,
@@ -126,30 +182,41 @@ pub(crate) fn terms(
     ast: &Ast,
     chunk: &ChunkView<'_>,
     env: &Env,
-) -> Result<Terms, NoMemory>
+) -> Result<KnownTerms, TypeFault>
     requires lent { IsLent chunk.now }
     requires plain { ArePlain plain.now }
     requires sentence { IsSentence chunk.now.tokens.now (statement_of ast.now) }
-    requires ports { HasFewPorts (statement_of ast.now) }
-    requires hold { AllHold (tests_at (site_of [] chunk.now env.now) (statement_of ast.now)) }
-    ensures { IfOk result (λ terms. morphisms_of terms ≡ terms_of (site_of «module».now chunk.now env.now) (statement_of ast.now)) }
+    requires small { AreWithinLimits (statement_of ast.now) (terms_of (site_of [] chunk.now env.now) (statement_of ast.now)) }
+    ensures terms { IfOk result (λ terms. terms ≡ terms_of (site_of «module».now chunk.now env.now) (statement_of ast.now)) }
+    ensures hold { OnOk result (AllHold (tests_at (site_of [] chunk.now env.now) (statement_of ast.now))) }
+    ensures alike { OnOk result ((home : List ℕ) → AreTypedAlike (terms_of (site_of home chunk.now env.now) (statement_of ast.now))) }
+    ensures fails { (token : ℕ) → result ≡ Err (TypeFault.Fails token) →
+        FailsFirst (tests_at (site_of [] chunk.now env.now) (statement_of ast.now)) token }
 {
     match ast {
         Ast::GenDecl { name, dom, cod } => {
             let identifier = text_at(chunk.first, chunk.tokens, *name);
             let name = generator_name(alloc, module, identifier)?;
-            one(alloc, generator(alloc, plain, name, *dom, *cod)?)
+            Ok(one(alloc, generator(alloc, plain, name, *dom, *cod)?)?)
         }
-        Ast::LetDecl { term, .. } => one(alloc, expand(alloc, plain, term, chunk, env)?),
-        Ast::RuleDecl { left, right, .. } => {
-            let left = expand(alloc, plain, left, chunk, env)?;
-            let right = expand(alloc, plain, right, chunk, env)?;
-            two(alloc, left, right)
+        Ast::LetDecl { term, .. } => {
+            let term = KnownTerm::of_tree(alloc, plain, term, chunk, env)?;
+            Ok(one(alloc, term)?)
+        }
+        Ast::RuleDecl {
+            left,
+            equals,
+            right,
+            ..
+        } => {
+            let first = KnownTerm::of_tree(alloc, plain, left, chunk, env)?;
+            let last = other(alloc, plain, &first, *equals, right, chunk, env)?;
+            Ok(two(alloc, first, last)?)
         }
         Ast::RewriteDecl { first, steps, .. } => {
-            let first = expand(alloc, plain, first, chunk, env)?;
-            with_goals(alloc, plain, first, steps.as_slice(), chunk, env)
+            let first = KnownTerm::of_tree(alloc, plain, first, chunk, env)?;
+            with_goals(alloc, plain, &first, steps.as_slice(), chunk, env)
         }
-        Ast::ImportDecl { .. } | Ast::ShowDecl { .. } => Ok(Terms::from_vec(Vec::new(alloc))),
+        Ast::ImportDecl { .. } | Ast::ShowDecl { .. } => Ok(KnownTerms::from_vec(Vec::new(alloc))),
     }
 }

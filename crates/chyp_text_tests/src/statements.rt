@@ -1,7 +1,6 @@
 // Each public call once, with ample memory.
 ghost use Rattle.std.specs.Prelude.{◌≡◌, ◌≤◌, ◌↔◌, [], length, IfOk, IsTrue, Some};
 ghost use Rattle.chyp_base.specs.declared.verdict.Verdict.TheVariants.{Accepted};
-ghost use Rattle.chyp_term.specs.Term.{morphisms_of};
 ghost use Rattle.chyp_lex.specs.Tokens.{AreSpans, AreTokens};
 ghost use Rattle.chyp_syntax.specs.Sentence.{IsSentence};
 ghost use Rattle.chyp_syntax.specs.Statement.{statement_of};
@@ -56,7 +55,7 @@ fn tree_of(alloc: Global, tokens: &[Token]) -> Result<Ast, Fail>
 fn meant(alloc: Global, env: &Env, chunk: &ChunkView<'_>) -> Result<Body, Fail>
     requires { IsLent chunk.now }
     ensures body { IfOk result (Elaborates (site_of [] chunk.now env.now)) }
-    ensures typed { IfOk result (λ body. AreTypedAlike (morphisms_of body.terms)) }
+    ensures typed { IfOk result (λ body. AreTypedAlike body.terms) }
 {
     let main = Name::new(alloc, "")?;
     let ast = tree_of(alloc, chunk.tokens)?;
@@ -82,7 +81,7 @@ fn refusal(alloc: Global, env: &Env, chunk: &ChunkView<'_>) -> Result<Verdict, F
 fn accepted(alloc: Global, env: &Env, chunk: &ChunkView<'_>) -> Result<Body, Fail>
     requires { IsLent chunk.now }
     ensures outcome { IfOk result (λ body. IsOutcome (site_of [] chunk.now env.now) (Some body) Accepted) }
-    ensures typed { IfOk result (λ body. AreTypedAlike (morphisms_of body.terms)) }
+    ensures typed { IfOk result (λ body. AreTypedAlike body.terms) }
 {
     if is_rewrite(chunk.tokens) {
         return Err(Fail::new("a rewrite"));

@@ -1,7 +1,5 @@
 use Rattle.std.proofs.Common.{arith, sym, ap, subst, sum_by, None, Err}
-use Rattle.std.proofs.lemmas.List.{length-map}
 use Rattle.chyp_term.specs.Measure.{size_of}
-use Rattle.chyp_term.specs.Term.{morphism_of, morphisms_of}
 use Rattle.chyp_names.specs.Binding.{IsOutcome}
 use Rattle.chyp_check.specs.Judged.{IsJudged, refused}
 use Rattle.chyp_check.proofs.Outcomes.{judged_sentence, passing_outcome, refused_outcome, terms_few}
@@ -25,8 +23,7 @@ returns-clause-outcome c = passing_outcome _ _ c.in-Ok.body c.in_ok-verdict.verd
 
 pub verdict_of-requires-clause-few : goal.verdict_of-requires-clause-few
 verdict_of-requires-clause-few c =
-    let few = terms_few (morphisms_of c.in-Ok.body.terms) in
+    let few = terms_few c.in-Ok.body.terms in
     let same = ap (sum_by size_of) c.in-Ok.ensures.body.terms in
     let together = c.in-Ok.ensures.passes.small.together in
-    let count = length-map c.in-Ok.body.terms morphism_of in
     omega arith

@@ -1,4 +1,4 @@
-use Rattle.std.proofs.Common.{◌≡◌, Err, sym, ap, ◌∙◌, subst}
+use Rattle.std.proofs.Common.{◌≡◌, [], Err, sym, ap, ◌∙◌, subst}
 use Rattle.std.proofs.lemmas.Bool.{both_ways}
 use Rattle.chyp_base.specs.declared.verdict.Verdict.TheVariants.{TooBig, Mistyped, Unproved}
 use Rattle.chyp_syntax.specs.Statement.{statement_of}
@@ -12,6 +12,9 @@ returns-then-not-is_small-clause-refused c = λ verdict e.
     let small = c.is_small.ensures c.args.module.now in
     subst (IsRefused (site_of c.args.module.now c.args.chunk.now c.args.env.now) (statement_of c.args.ast.now)) is
     (too_big c.in_default.ensures.fresh c.in_default.ensures.fits c.in_default.ensures.known (λ within. both_ways c.is_small.result c.if-not-is_small.true (small.1 within)))
+
+pub terms-requires-clause-small : goal.terms-requires-clause-small
+terms-requires-clause-small c = (c.is_small.ensures []).0 c.if-not-is_small.false
 
 pub returns-in-Err-Fails-clause-refused : goal.returns-in-Err-Fails-clause-refused
 returns-in-Err-Fails-clause-refused c = λ verdict e.

@@ -14,12 +14,15 @@ returns-then-is_some t c =
       | in-Chain w ↦ uses_of_chain c.args.tree.now w.in-Chain.parts c.as_slice-part-items.result.now w.in-Chain.semis w.in-Chain.is (c.as_slice-part-items.ensures ∙ ap (λ p. p.now) w.parts-is)
       | in-Beside w ↦ uses_of_tensor c.args.tree.now w.in-Beside.parts c.as_slice-part-items.result.now w.in-Beside.is (c.as_slice-part-items.ensures ∙ ap (λ p. p.now) w.parts-is)
     ] in
-    stops (fault_of (site_of [] c.args.chunk.now c.args.env.now)) part_uses c.as_slice-part-items.result.now c.loop-part.part-index c.part-item.result (part_uses c.args.tree.now) c.fault_in_tree-fault.result
-    uses c.loop-part-test.true c.loop-part.invariant (c.fault_in_tree-fault.ensures ∙ ap (λ (part : TermAst). first_fault_among (site_of [] c.args.chunk.now c.args.env.now) (part_uses part)) c.part-item.is) c.if-is_some.ensures
+    stops (fault_of (site_of [] c.args.chunk.now c.args.env.now)) part_uses c.as_slice-part-items.result.now c.loop-part.part-index c.part-item.result
+        (part_uses c.args.tree.now) c.fault_in_tree-fault.result
+    uses c.loop-part-test.true c.loop-part.invariant
+        (c.fault_in_tree-fault.ensures ∙ ap (λ (part : TermAst). first_fault_among (site_of [] c.args.chunk.now c.args.env.now) (part_uses part)) c.part-item.is) c.if-is_some.ensures
 
 pub loop-part-preserved : goal.loop-part-preserved
 loop-part-preserved t c =
-    goes_on (fault_of (site_of [] c.args.chunk.now c.args.env.now)) part_uses c.as_slice-part-items.result.now c.loop-part.part-index c.part-item.result c.fault_in_tree-fault.result c.loop-part-test.true c.loop-part.invariant
+    goes_on (fault_of (site_of [] c.args.chunk.now c.args.env.now)) part_uses c.as_slice-part-items.result.now c.loop-part.part-index c.part-item.result c.fault_in_tree-fault.result
+        c.loop-part-test.true c.loop-part.invariant
     (c.fault_in_tree-fault.ensures ∙ ap (λ (part : TermAst). first_fault_among (site_of [] c.args.chunk.now c.args.env.now) (part_uses part)) c.part-item.is) c.if-is_some.ensures
 
 pub returns : goal.returns
@@ -28,4 +31,5 @@ returns t c =
       | in-Chain w ↦ uses_of_chain c.args.tree.now w.in-Chain.parts c.as_slice-part-items.result.now w.in-Chain.semis w.in-Chain.is (c.as_slice-part-items.ensures ∙ ap (λ p. p.now) w.parts-is)
       | in-Beside w ↦ uses_of_tensor c.args.tree.now w.in-Beside.parts c.as_slice-part-items.result.now w.in-Beside.is (c.as_slice-part-items.ensures ∙ ap (λ p. p.now) w.parts-is)
     ] in
-    ends (fault_of (site_of [] c.args.chunk.now c.args.env.now)) part_uses c.as_slice-part-items.result.now c.loop-part.part-index (part_uses c.args.tree.now) uses c.loop-part-test.false c.loop-part.invariant
+    ends (fault_of (site_of [] c.args.chunk.now c.args.env.now)) part_uses c.as_slice-part-items.result.now c.loop-part.part-index (part_uses c.args.tree.now) uses c.loop-part-test.false
+        c.loop-part.invariant
