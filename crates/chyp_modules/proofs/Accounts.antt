@@ -6,7 +6,8 @@ use Rattle.chyp_term.specs.Morphism.{Morphism, IsTyped}
 use Rattle.chyp_term.specs.Rewriting.{RewritesInContext}
 use Rattle.chyp_term.specs.Step.{Reason, by_laws, by_rule, by_simp}
 use Rattle.chyp_modules.specs.Table.{Outcome, simp_differs, good, differs, no_rewrite, too_wide, HasOutcome, derived, not_derived, wide, rewrites, rewrites_not, simplified, most_placements, rules_of}
-use Rattle.chyp_modules.specs.Trial.{RewritingsAreDecided, Tried}
+use Rattle.chyp_laws.specs.Rewriting.{RewritesAreDecided}
+use Rattle.chyp_modules.specs.Unlimited.{Unlimited}
 use Rattle.chyp_modules.proofs.Derivations.{context-derives}
 use Rattle.chyp_modules.proofs.Known.{AreEquations, GivesAtMostOne, GivesSome, IsSoundAccount}
 
@@ -34,7 +35,8 @@ table-sound P O S simp reason t u rules is h = go reason t u good refl rules is 
 abbrev pub CountsOnce : Counting → Type 0
 CountsOnce P = (l t : Morphism) (m n : ℕ) → P l t m → P l t n → m ≡ n
 
-pub table-once : (P O : Counting) (S : Simplifying) → CountsOnce P → CountsOnce O → ((rules : List (Morphism × Morphism)) (t u : Morphism) (a b : Outcome) → S rules t u a → S rules t u b → a ≡ b) → GivesAtMostOne (HasOutcome P O S)
+pub table-once : (P O : Counting) (S : Simplifying) → CountsOnce P → CountsOnce O → ((rules : List (Morphism × Morphism)) (t u : Morphism) (a b : Outcome) → S rules t u a → S rules t u b → a ≡ b)
+    → GivesAtMostOne (HasOutcome P O S)
 table-once P O S places occurs simp reason t u a b (derived d) (derived e) = refl
 table-once P O S places occurs simp reason t u a b (derived d) (not_derived e) = absurd (e d)
 table-once P O S places occurs simp reason t u a b (not_derived d) (derived e) = absurd (d e)
@@ -53,7 +55,7 @@ table-once P O S places occurs simp reason t u a b (simplified {rules} x) (simpl
 abbrev pub CountsSome : Counting → Type 0
 CountsSome P = (l t : Morphism) → IsTyped l → IsTyped t → (n : ℕ) × P l t n
 
-pub table-some : (P O : Counting) (S : Simplifying) → ((s t : Morphism) → IsTyped s → IsTyped t → Derives [] s t ⊎ ¬ Derives [] s t) → RewritingsAreDecided → CountsSome P → CountsSome O
+pub table-some : (P O : Counting) (S : Simplifying) → ((s t : Morphism) → IsTyped s → IsTyped t → Derives [] s t ⊎ ¬ Derives [] s t) → RewritesAreDecided → CountsSome P → CountsSome O
     → ((rules : List (Morphism × Morphism)) (t u : Morphism) → AreEquations rules → IsEquation t u → (o : Outcome) × S rules t u o) → GivesSome (HasOutcome P O S)
 table-some P O S laws contexts places occurs simp by_laws t u rules is = go (laws t u is.left is.right)
   where
@@ -73,14 +75,16 @@ table-some P O S laws contexts places occurs simp (by_rule (l, r)) t u rules is 
         within (inr w) = elim c [ inl d ↦ (good, rewrites p w d) | inr d ↦ (no_rewrite k, rewrites_not p w d occ) ]
 table-some P O S laws contexts places occurs simp (by_simp rs) t u rules is = let o = simp rs t u rules is in (o.0, simplified o.1)
 
--- ---- the account for trials
+-- ---- the account without limits
 
-pub tried-sound : IsSoundAccount Tried
+pub tried-sound : IsSoundAccount Unlimited
 tried-sound reason t u rules is h = table-sound (λ l t n. n ≡ 0) (λ l t k. k ≡ 0) (λ rules t u outcome. outcome ≡ simp_differs) (λ rules t u e i s. absurd cc) reason t u rules is h
 
-pub tried-once : GivesAtMostOne Tried
-tried-once reason t u a b h k = table-once (λ l t n. n ≡ 0) (λ l t k. k ≡ 0) (λ rules t u outcome. outcome ≡ simp_differs) (λ l t m n e f. e ∙ sym f) (λ l t m n e f. e ∙ sym f) (λ rules t u a b e f. e ∙ sym f) reason t u a b h k
+pub unlimited-once : GivesAtMostOne Unlimited
+unlimited-once reason t u a b h k =
+    table-once (λ l t n. n ≡ 0) (λ l t k. k ≡ 0) (λ rules t u outcome. outcome ≡ simp_differs) (λ l t m n e f. e ∙ sym f) (λ l t m n e f. e ∙ sym f) (λ rules t u a b e f. e ∙ sym f) reason t u a b h k
 
-pub tried-some : ((s t : Morphism) → IsTyped s → IsTyped t → Derives [] s t ⊎ ¬ Derives [] s t) → RewritingsAreDecided → GivesSome Tried
-tried-some laws contexts reason t u rules is =
-    table-some (λ l t n. n ≡ 0) (λ l t k. k ≡ 0) (λ rules t u outcome. outcome ≡ simp_differs) laws contexts (λ l t x y. (0, refl)) (λ l t x y. (0, refl)) (λ rules t u x y. (simp_differs, refl)) reason t u rules is
+pub unlimited-some : ((s t : Morphism) → IsTyped s → IsTyped t → Derives [] s t ⊎ ¬ Derives [] s t) → RewritesAreDecided → GivesSome Unlimited
+unlimited-some laws contexts reason t u rules is =
+    table-some (λ l t n. n ≡ 0) (λ l t k. k ≡ 0) (λ rules t u outcome. outcome ≡ simp_differs) laws contexts (λ l t x y. (0, refl)) (λ l t x y. (0, refl))
+    (λ rules t u x y. (simp_differs, refl)) reason t u rules is

@@ -10,7 +10,8 @@ use Rattle.chyp_env.proofs.Failing.{tests-decided}
 use Rattle.chyp_check.proofs.Below.{conditions_decided, passing_typed}
 use Rattle.chyp_modules.proofs.Known.{Known}
 
-pub known-of : ((text : List ℕ) → HasOneTokenList text) → ((tokens : List Token) → HasOneListOfChunks tokens) → ((tokens : List Token) → IsSentenceOrFails tokens) → ((tokens : List Token) → ArePrefixesClosed tokens)
+pub known-of : ((text : List ℕ) → HasOneTokenList text) → ((tokens : List Token) → HasOneListOfChunks tokens) → ((tokens : List Token) → IsSentenceOrFails tokens)
+    → ((tokens : List Token) → ArePrefixesClosed tokens)
     → ((tokens : List Token) → HasOneTree tokens) → SortsAreDecided → PermutationsAreDecided → Known
 known-of tokens chunks sentences prefixes trees sorts permutations = record {
   tokens = tokens;

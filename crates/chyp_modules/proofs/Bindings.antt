@@ -135,7 +135,8 @@ distinct-import env bs prefix h k =
     distinct-append env (new_in env (all_passed_on prefix bs)) h (distinct-filter _ (all_passed_on prefix bs) (distinct-passed_on prefix bs k)) (λ b c. new-unbound env (all_passed_on prefix bs) b c)
 
 -- what holds of all bindings, whatever their names, holds of those behind an import
-pub import-all : (P : Binding → Type 0) (env bs : List Binding) (prefix : Option (List ℕ)) → ((b : Binding) → P b → P (passed_on prefix b)) → All P env → All P bs → All P (env ++ new_in env (all_passed_on prefix bs))
+pub import-all : (P : Binding → Type 0) (env bs : List Binding) (prefix : Option (List ℕ)) → ((b : Binding) → P b → P (passed_on prefix b)) → All P env → All P bs
+    → All P (env ++ new_in env (all_passed_on prefix bs))
 import-all P env bs prefix same here there =
     All-append P env (new_in env (all_passed_on prefix bs)) here (All-filter _ P (all_passed_on prefix bs) (All-map P (passed_on prefix) bs (λ k d h. same (slice_index_or bs k d) (there k d h))))
 
@@ -177,10 +178,15 @@ import-covers env bs prefix none b has = go (binding_of env (prefixed prefix b.n
     at : Contains all (passed_on prefix b)
     at = Contains-map (passed_on prefix) bs b has
 
-    go : (o : Option Binding) → binding_of env (prefixed prefix b.name) ≡ o → (c : Binding) × Contains (env ++ new_in env (all_passed_on prefix bs)) c × (c.origin ≡ b.origin) × ((c ≡ passed_on prefix b) ⊎ Contains env c)
+    go : (o : Option Binding) → binding_of env (prefixed prefix b.name) ≡ o → (c : Binding) × Contains (env ++ new_in env (all_passed_on prefix bs)) c × (c.origin ≡ b.origin)
+        × ((c ≡ passed_on prefix b) ⊎ Contains env c)
     go None e =
-        let free : not (is_bound env (prefixed prefix b.name)) ≡ true = ap (λ o. not (is_some o)) e in
-        (passed_on prefix b, Contains-append_right env (new_in env all) (passed_on prefix b) (Contains-filter (λ (x : Binding). not (is_bound env x.name)) all (passed_on prefix b) at free), refl, inl refl)
+        let free : not (is_bound env (prefixed prefix b.name)) ≡ true = ap (λ o. not (is_some o)) e in (
+          passed_on prefix b,
+          Contains-append_right env (new_in env all) (passed_on prefix b) (Contains-filter (λ (x : Binding). not (is_bound env x.name)) all (passed_on prefix b) at free),
+          refl,
+          inl refl,
+        )
     go (Some old) e =
         let found = binding-found env (prefixed prefix b.name) old e in
         let fits : clashes env (passed_on prefix b) ≡ false = find-none (clashes env) all (passed_on prefix b) (no-name _ none) at in

@@ -50,7 +50,8 @@ without-not name names c = go (bytes_eq name name) (names-same name name refl) (
 no-more : (xs ys : Names) → AreDistinct xs → ((name : List ℕ) → Contains xs name → Contains ys name) → length xs ≤ length ys
 no-more [] ys d among = omega arith
 no-more (x ∷ xs) ys d among =
-    let rest = no-more xs (without x ys) d.1 (λ name c. Contains-filter (λ other. not (bytes_eq x other)) ys name (among name (Contains-cons x xs name c)) (differ-not x name (λ e. d.0 (subst (Contains xs) (sym e) c)))) in
+    let rest = no-more xs (without x ys) d.1
+    (λ name c. Contains-filter (λ other. not (bytes_eq x other)) ys name (among name (Contains-cons x xs name c)) (differ-not x name (λ e. d.0 (subst (Contains xs) (sym e) c)))) in
     let shorter = without-shorter x ys (among x (0, omega arith, refl)) in
     omega arith
 
@@ -80,16 +81,31 @@ pick library name (x ∷ xs) n d c (of_more {text} {statements} {n = k} m h) = g
     go true e where' rest =
         let same : name ≡ x = names-eq name x e in
         let none : without name (x ∷ xs) ≡ xs = ap (λ b. cond (not b) (x ∷ without name xs) (without name xs)) e ∙ without-none name xs (λ i. d.0 (subst (Contains xs) same i)) in
-        record { text = text; statements = statements; is_module = subst (λ q. IsModule library q text statements) (sym same) m; m = k; rest = subst (λ q. HaveStatements library q k) (sym none) h; sum = refl }
+        record {
+          text = text;
+          statements = statements;
+          is_module = subst (λ q. IsModule library q text statements) (sym same) m;
+          m = k;
+          rest = subst (λ q. HaveStatements library q k) (sym none) h;
+          sum = refl;
+        }
     go false e (inl s) rest = absurd (false≢true (sym e ∙ names-same name x (sym s)))
     go false e (inr i) rest =
         let p = rest i in
         let more : without name (x ∷ xs) ≡ x ∷ without name xs = ap (λ b. cond (not b) (x ∷ without name xs) (without name xs)) e in
         let total = p.sum in
-        record { text = p.text; statements = p.statements; is_module = p.is_module; m = length statements + p.m; rest = subst (λ q. HaveStatements library q (length statements + p.m)) (sym more) (of_more m p.rest); sum = omega arith }
+        record {
+          text = p.text;
+          statements = p.statements;
+          is_module = p.is_module;
+          m = length statements + p.m;
+          rest = subst (λ q. HaveStatements library q (length statements + p.m)) (sym more) (of_more m p.rest);
+          sum = omega arith;
+        }
 
 -- the same modules have as many statements, in whatever order they stand
-count-once : Known → (library : Library) (xs ys : Names) (m n : ℕ) → AreDistinct xs → AreDistinct ys → ((name : List ℕ) → Contains xs name → Contains ys name) → ((name : List ℕ) → Contains ys name → Contains xs name)
+count-once : Known → (library : Library) (xs ys : Names) (m n : ℕ) → AreDistinct xs → AreDistinct ys → ((name : List ℕ) → Contains xs name → Contains ys name)
+    → ((name : List ℕ) → Contains ys name → Contains xs name)
     → HaveStatements library xs m → HaveStatements library ys n → m ≡ n
 count-once known library [] [] m n d e f g of_none of_none = refl
 count-once known library [] (y ∷ ys) m n d e f g h k = absurd (omega (arith, (g y (0, omega arith, refl)).1))
@@ -191,7 +207,8 @@ new-import known library names text (s ∷ ss) = go (new-import known library na
     behind none here zero tokens other whole e i t = let same : s ≡ tokens = cc in here other whole (subst (λ x. Imports text x other) (sym same) i) t
     behind none here (suc k) tokens other whole e i t = none k tokens other whole e i t
 
-    named : NoNewImport library names text ss → (i : SomeImport text s) → (o : Option (List ℕ)) → library i.name ≡ o → Contains names i.name ⊎ ¬ Contains names i.name → NewImport library names text (s ∷ ss) ⊎ NoNewImport library names text (s ∷ ss)
+    named : NoNewImport library names text ss → (i : SomeImport text s) → (o : Option (List ℕ)) → library i.name ≡ o → Contains names i.name ⊎ ¬ Contains names i.name
+        → NewImport library names text (s ∷ ss) ⊎ NoNewImport library names text (s ∷ ss)
     named none i None e c = inr (behind none (λ other whole j t. absurd (none-some (library other) whole (ap library (sym (imports-unique known text s i.name other i.imports j)) ∙ e) t)))
     named none i (Some whole) e (inr c) = inl (record { number = 0; tokens = s; here = refl; other = i.name; imports = i.imports; whole = whole; there = e; new = c })
     named none i (Some whole) e (inl c) = inr (behind none (λ other whole j t. subst (Contains names) (imports-unique known text s i.name other i.imports j) c))
@@ -212,9 +229,19 @@ new-one known library names (x ∷ xs) = go (new-one known library names xs) (li
         pick' (inl s) = here other whole (subst (λ q. LeadsTo library q other) (sym s) l) t
         pick' (inr i) = rest from other whole i l t
 
-    of_text : AreClosed library names xs → (text : List ℕ) → library x ≡ Some text → (ss : List (List Token)) → IsModule library x text ss → NewImport library names text ss ⊎ NoNewImport library names text ss
+    of_text : AreClosed library names xs → (text : List ℕ) → library x ≡ Some text → (ss : List (List Token)) → IsModule library x text ss → NewImport library names text ss
+        ⊎ NoNewImport library names text ss
         → NewOne library names (x ∷ xs) ⊎ AreClosed library names (x ∷ xs)
-    of_text rest text e ss m (inl n) = inl (record { from = x; is_source = (0, omega arith, refl); other = n.other; leads = record { text = text; statements = ss; is_module = m; number = n.number; tokens = n.tokens; here = n.here; imports = n.imports }; whole = n.whole; there = n.there; new = n.new })
+    of_text rest text e ss m (inl n) =
+        inl (record {
+          from = x;
+          is_source = (0, omega arith, refl);
+          other = n.other;
+          leads = record { text = text; statements = ss; is_module = m; number = n.number; tokens = n.tokens; here = n.here; imports = n.imports };
+          whole = n.whole;
+          there = n.there;
+          new = n.new;
+        })
     of_text rest text e ss m (inr none) = inr (closed rest (λ other whole l t.
         let same = module-unique known library x text l.text ss l.statements m l.is_module in
         none l.number l.tokens other whole (ap (λ q. slice_get q l.number) same.1 ∙ l.here) (subst (λ q. Imports q l.tokens other) (sym same.0) l.imports) t))
@@ -228,7 +255,8 @@ new-one known library names (x ∷ xs) = go (new-one known library names xs) (li
         of_text rest text e ss.0 m (new-import known library names text ss.0)
 
 -- what is closed has all that is reached
-closed-reached : (library : Library) (names : Names) → AreClosed library names ([] ∷ names) → (a b : List ℕ) → Reaches library a b → Contains ([] ∷ names) a → (whole : List ℕ) → library b ≡ Some whole → Contains names b
+closed-reached : (library : Library) (names : Names) → AreClosed library names ([] ∷ names) → (a b : List ℕ) → Reaches library a b → Contains ([] ∷ names) a → (whole : List ℕ) → library b ≡ Some whole
+    → Contains names b
 closed-reached library names closed a b (at_once l) c whole t = closed a b whole c l t
 closed-reached library names closed a b (by_way_of {next} l r) c whole t =
     let at = begins library next b r in
@@ -255,7 +283,13 @@ explore known library (suc more) names w e = go (new-one known library names ([]
       where
         each : (name : List ℕ) → (n.other ≡ name) ⊎ Contains names name → (text : List ℕ) × IsWanted library name text
         each name (inr i) = w.each name i
-        each name (inl s) = (n.whole, record { reached = subst (Reaches library []) s (then-reached n.from n.other (reached n.from n.is_source) n.leads); there = subst (λ q. library q ≡ Some n.whole) s n.there })
+        each name (inl s) = (
+          n.whole,
+          record {
+            reached = subst (Reaches library []) s (then-reached n.from n.other (reached n.from n.is_source) n.leads);
+            there = subst (λ q. library q ≡ Some n.whole) s n.there;
+          },
+        )
 
 -- all texts of some modules are short enough, or one is too long
 record LongOne (library : Library) (names : Names) : Type 0 where

@@ -25,7 +25,8 @@ none-kept : {A B : Type 0} (f : A → Option B) (xs : List A) → slice_get (fil
 none-kept f [] e x c = absurd (omega (arith, c.1))
 none-kept f (y ∷ ys) e x c = go (f y) refl e (Contains-from_cons y ys x c) (none-kept f ys)
   where
-    go : (o : Option _) → f y ≡ o → slice_get (cons_option o (filter_map f ys)) 0 ≡ None → (y ≡ x) ⊎ Contains ys x → (slice_get (filter_map f ys) 0 ≡ None → (z : _) → Contains ys z → f z ≡ None) → f x ≡ None
+    go : (o : Option _) → f y ≡ o → slice_get (cons_option o (filter_map f ys)) 0 ≡ None → (y ≡ x) ⊎ Contains ys x → (slice_get (filter_map f ys) 0 ≡ None → (z : _) → Contains ys z → f z ≡ None)
+        → f x ≡ None
     go None h i (inl s) rest = ap f (sym s) ∙ h
     go None h i (inr d) rest = rest i x d
     go (Some v) h i d rest = absurd cc
@@ -41,7 +42,8 @@ pub record IsLawThere (site : Site) (token : ℕ) : Type 0 where
 law-there : (site : Site) (token : ℕ) → fault_of site (in_reason token) ≡ None → unproved_use site (in_reason token) ≡ None → IsLawThere site token
 law-there site token f u = bound (binding_at site token) refl f u
   where
-    sensed : (b : Binding) → binding_at site token ≡ Some b → (s : Sense) → b.sense ≡ s → fault_in_reason s token ≡ None → unproved_token (Some (record { name = b.name; origin = b.origin; sense = s })) token ≡ None → IsLawThere site token
+    sensed : (b : Binding) → binding_at site token ≡ Some b → (s : Sense) → b.sense ≡ s → fault_in_reason s token ≡ None
+        → unproved_token (Some (record { name = b.name; origin = b.origin; sense = s })) token ≡ None → IsLawThere site token
     sensed b h (law first last) e g v = record { binding = b; first = first; last = last; is = h; sense = e }
     sensed b h unproved e g v = absurd cc
     sensed b h broken e g v = absurd cc
@@ -61,7 +63,8 @@ Contains-flat_map f (z ∷ zs) x y c d = go (Contains-from_cons z zs x c) (λ h.
     go (inr h) rest = Contains-append_right (f z) (flat_map f zs) y (rest h)
 
 -- a name behind a `by` of a rewrite is used by it
-cited-used : (name : ℕ) (first : TermTree) (steps : List StepTree) (step : StepTree) (token : ℕ) → Contains steps step → Contains (names_of_reason step.reason) token → Contains (uses_of (rewrite name first steps)) (in_reason token)
+cited-used : (name : ℕ) (first : TermTree) (steps : List StepTree) (step : StepTree) (token : ℕ) → Contains steps step → Contains (names_of_reason step.reason) token
+    → Contains (uses_of (rewrite name first steps)) (in_reason token)
 cited-used name first steps step token c d =
     Contains-append_right (uses_in first) (flat_map uses_in_step steps) (in_reason token)
     (Contains-flat_map uses_in_step steps step (in_reason token) c
@@ -100,7 +103,8 @@ reason-laws P site (Rule signed) each = All-cons P (equation_at site signed) [] 
   where
     go : (at : IsLawThere site signed.name) × P (at.first, at.last) × P (at.last, at.first) → P (equation_at site signed)
     go h = elim (equation-law site signed h.0) [ inl e ↦ subst P (sym e) h.1 | inr e ↦ subst P (sym e) h.2 ]
-reason-laws P site (Simp rules) each = All-map P (equation_at site) rules (All-from (λ signed. P (equation_at site signed)) rules (λ signed c. go signed (each signed.name (Contains-map (λ (s : SignedAst). s.name) rules signed c))))
+reason-laws P site (Simp rules) each =
+    All-map P (equation_at site) rules (All-from (λ signed. P (equation_at site signed)) rules (λ signed c. go signed (each signed.name (Contains-map (λ (s : SignedAst). s.name) rules signed c))))
   where
     go : (signed : SignedAst) → (at : IsLawThere site signed.name) × P (at.first, at.last) × P (at.last, at.first) → P (equation_at site signed)
     go signed h = elim (equation-law site signed h.0) [ inl e ↦ subst P (sym e) h.1 | inr e ↦ subst P (sym e) h.2 ]

@@ -44,7 +44,8 @@ context-derives l r t u is c =
 -- ---- laws that rest on rules
 
 -- a law that rests on no more is derived as well
-pub derived-along : (Has : Account) (library : Library) (o p : List ℕ × ℕ) → ((e : Equation) → Permits Has library o e → Permits Has library p e) → (l r : Morphism) → IsDerived Has library o l r → IsDerived Has library p l r
+pub derived-along : (Has : Account) (library : Library) (o p : List ℕ × ℕ) → ((e : Equation) → Permits Has library o e → Permits Has library p e) → (l r : Morphism) → IsDerived Has library o l r
+    → IsDerived Has library p l r
 derived-along Has library o p more l r d = record { rules = d.rules; permitted = λ k x h. more _ (d.permitted k x h); derivation = d.derivation }
 
 pub derived-same : (Has : Account) (library : Library) (o : List ℕ × ℕ) (t : Morphism) → IsTyped t → IsDerived Has library o t t
@@ -57,7 +58,8 @@ pub derived-chain : (Has : Account) (library : Library) (o : List ℕ × ℕ) (s
 derived-chain Has library o s t u d e = record {
   rules = d.rules ++ e.rules;
   permitted = All-append (Permits Has library o) d.rules e.rules d.permitted e.permitted;
-  derivation = chain (weaken (d.rules ++ e.rules) d.rules (λ x c. Contains-append_left d.rules e.rules x c) d.derivation) (weaken (d.rules ++ e.rules) e.rules (λ x c. Contains-append_right d.rules e.rules x c) e.derivation);
+  derivation = chain (weaken (d.rules ++ e.rules) d.rules (λ x c. Contains-append_left d.rules e.rules x c) d.derivation)
+      (weaken (d.rules ++ e.rules) e.rules (λ x c. Contains-append_right d.rules e.rules x c) e.derivation);
 }
 
 -- rules that prove all of some equations
@@ -68,7 +70,8 @@ record Together (Has : Account) (library : Library) (o : List ℕ × ℕ) (F : L
 
 together : (Has : Account) (library : Library) (o : List ℕ × ℕ) (F : List Equation) → All (λ (e : Equation). IsDerived Has library o e.0 e.1) F → Together Has library o F
 together Has library o [] all = record { rules = []; permitted = All-nil _; each = λ e c. absurd (omega (arith, c.1)) }
-together Has library o (f ∷ fs) all = go (All-head (λ (e : Equation). IsDerived Has library o e.0 e.1) f fs all) (together Has library o fs (All-tail (λ (e : Equation). IsDerived Has library o e.0 e.1) f fs all))
+together Has library o (f ∷ fs) all =
+    go (All-head (λ (e : Equation). IsDerived Has library o e.0 e.1) f fs all) (together Has library o fs (All-tail (λ (e : Equation). IsDerived Has library o e.0 e.1) f fs all))
   where
     go : IsDerived Has library o f.0 f.1 → Together Has library o fs → Together Has library o (f ∷ fs)
     go d rest = record {
@@ -82,7 +85,8 @@ together Has library o (f ∷ fs) all = go (All-head (λ (e : Equation). IsDeriv
         pick e (inr c) = weaken (d.rules ++ rest.rules) rest.rules (λ x h. Contains-append_right d.rules rest.rules x h) (rest.each e c)
 
 -- what follows from derived equations is derived
-pub derived-cut : (Has : Account) (library : Library) (o : List ℕ × ℕ) (F : List Equation) (s t : Morphism) → All (λ (e : Equation). IsDerived Has library o e.0 e.1) F → Derives F s t → IsDerived Has library o s t
+pub derived-cut : (Has : Account) (library : Library) (o : List ℕ × ℕ) (F : List Equation) (s t : Morphism) → All (λ (e : Equation). IsDerived Has library o e.0 e.1) F → Derives F s t
+    → IsDerived Has library o s t
 derived-cut Has library o F s t all d =
     let both = together Has library o F all in
     record { rules = both.rules; permitted = both.permitted; derivation = cut both.rules F (λ e c is. both.each e c) d }

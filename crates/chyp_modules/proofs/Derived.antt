@@ -139,9 +139,12 @@ rewrite-derived Has library known sound home number site st env laws j name tree
     go q =
         let trees : rewrite q.name q.first q.steps ≡ rewrite name tree steps = known.trees site.tokens (rewrite q.name q.first q.steps) (rewrite name tree steps) q.is_sentence t in
         let terms = ap (terms_of site) trees in
-        let one : expansion_at site q.first ≡ first = some-once (slice_get (terms_of site (rewrite q.name q.first q.steps)) 0) (expansion_at site q.first) first refl (ap (λ ts. slice_get ts 0) terms ∙ f) in
-        let end : slice_get (terms_of site (rewrite q.name q.first q.steps)) (length (terms_of site (rewrite q.name q.first q.steps)) - 1) ≡ Some last = ap (λ ts. slice_get ts (length ts - 1)) terms ∙ l in
-        let derived = walk Has library o site sound q.steps (expansion_at site q.first) (open-closed q.steps q.closed) (λ step c. each q step c) (known.typed site env (rewrite q.name q.first q.steps) q.passes) q.all_good last end in
+        let one : expansion_at site q.first ≡ first =
+        some-once (slice_get (terms_of site (rewrite q.name q.first q.steps)) 0) (expansion_at site q.first) first refl (ap (λ ts. slice_get ts 0) terms ∙ f) in
+        let end : slice_get (terms_of site (rewrite q.name q.first q.steps)) (length (terms_of site (rewrite q.name q.first q.steps)) - 1) ≡ Some last = ap (λ ts. slice_get ts (length ts - 1)) terms
+        ∙ l in
+        let derived = walk Has library o site sound q.steps (expansion_at site q.first) (open-closed q.steps q.closed) (λ step c. each q step c)
+        (known.typed site env (rewrite q.name q.first q.steps) q.passes) q.all_good last end in
         subst (λ m. IsDerived Has library o m last) one derived
       where
         at-law : (q : ProvedSteps Has site) (step : StepTree) (token : ℕ) → Contains q.steps step → Contains (names_of_reason step.reason) token
@@ -150,8 +153,10 @@ rewrite-derived Has library known sound home number site st env laws j name tree
             let at = cited-law site q.name q.first q.steps q.passes step token c d in
             let has = binding-found site.env (text_at site.text site.tokens token) at.binding at.is in
             let is : IsSoundSense (law at.first at.last) = subst IsSoundSense at.sense (All-contains (λ (b : Binding). IsSoundSense b.sense) site.env at.binding env.each has.0) in
-            let derived : IsDerived Has library at.binding.origin at.first at.last = subst (IsLawDerived Has library at.binding.origin) at.sense (All-contains (λ (b : Binding). IsLawDerived Has library b.origin b.sense) site.env at.binding laws has.0) in
-            let cites : Cites site at.binding = record { name = q.name; first = q.first; steps = q.steps; is_sentence = q.is_sentence; step = step; is_step = c; token = token; named = d; is = at.is } in
+            let derived : IsDerived Has library at.binding.origin at.first at.last =
+            subst (IsLawDerived Has library at.binding.origin) at.sense (All-contains (λ (b : Binding). IsLawDerived Has library b.origin b.sense) site.env at.binding laws has.0) in
+            let cites : Cites site at.binding =
+            record { name = q.name; first = q.first; steps = q.steps; is_sentence = q.is_sentence; step = step; is_step = c; token = token; named = d; is = at.is } in
             let mine = derived-along Has library at.binding.origin o (λ e r. record { from = r.from; rests = by_name st cites r.rests; means = r.means }) at.first at.last derived in
             let e = is.0 in
             (at, (e, mine), (record { left = e.right; right = e.left; doms = sym e.doms; cods = sym e.cods }, derived-back Has library o at.first at.last mine))
@@ -164,13 +169,15 @@ rewrite-derived Has library known sound home number site st env laws j name tree
 pub home-is : (Has : Account) (library : Library) (name : List ℕ) (number : ℕ) (s : Site) → Stands Has library name number s → s.home ≡ name
 home-is Has library name number s (stands h m e k f) = h
 
-rule-there : (Has : Account) (library : Library) (home : List ℕ) (number : ℕ) (s : Site) → Stands Has library home number s → {name equals : ℕ} {left right : TermTree} → IsSentence s.tokens (rule name left equals right)
+rule-there : (Has : Account) (library : Library) (home : List ℕ) (number : ℕ) (s : Site) → Stands Has library home number s → {name equals : ℕ} {left right : TermTree}
+    → IsSentence s.tokens (rule name left equals right)
     → IsRule library (home, number)
 rule-there Has library home number s (stands {statements} h m e k f) {name} {equals} {left} {right} t =
     record { text = s.text; statements = statements; is_module = m; tokens = s.tokens; here = e; name = name; left = left; equals = equals; right = right; is_sentence = t }
 
 -- what a statement stands for is derived
-pub sense-derived : (Has : Account) (library : Library) → Known → IsSoundAccount Has → (home : List ℕ) (number : ℕ) (s : Site) → Stands Has library home number s → IsSound s.env → AreLawsDerived Has library s.env
+pub sense-derived : (Has : Account) (library : Library) → Known → IsSoundAccount Has → (home : List ℕ) (number : ℕ) (s : Site) → Stands Has library home number s → IsSound s.env
+    → AreLawsDerived Has library s.env
     → (v : Verdict) (name : List ℕ) → declared_name s.text s.tokens ≡ Some name → IsJudged Has s v → (sense : Sense) → StandsFor s v sense → IsLawDerived Has library (home, number) sense
 sense-derived Has library known sound home number s st env laws v name e j sense (a_declared_generator t f) = tt
 sense-derived Has library known sound home number s st env laws v name e j sense (a_term t f) = tt
@@ -191,14 +198,16 @@ binds-derived Has library known sound home n s st env laws k v next j (again e f
 binds-derived Has library known sound home n s st env laws k v next j (anew {name} {sense} e f x) =
     let P : Binding → Type 0 = λ b. IsLawDerived Has library b.origin b.sense in
     let b : Binding = record { name = name; origin = (s.home, n); sense = sense } in
-    let is : IsLawDerived Has library (s.home, n) sense = subst (λ h. IsLawDerived Has library (h, n) sense) (sym (home-is Has library home n s st)) (sense-derived Has library known sound home n s st env laws v name e j sense x) in
+    let is : IsLawDerived Has library (s.home, n) sense =
+    subst (λ h. IsLawDerived Has library (h, n) sense) (sym (home-is Has library home n s st)) (sense-derived Has library known sound home n s st env laws v name e j sense x) in
     All-append P s.env (b ∷ []) laws (All-cons P b [] is (All-nil _))
 binds-derived Has library known sound home n s st env laws k v next j (imports {as_word} {env = bs} f t i) =
     import-all (λ b. IsLawDerived Has library b.origin b.sense) s.env bs (prefix_at s as_word) (λ b x. x) laws (subst (AreImportsDerived Has library) i k)
 
 mutual
   -- every law of an environment is derived from rules on which its origin rests
-  pub makes-derived : (Has : Account) (library : Library) → Known → IsSoundAccount Has → (name : List ℕ) (number : ℕ) (env : List Binding) → Makes Has library name number env → AreLawsDerived Has library env
+  pub makes-derived : (Has : Account) (library : Library) → Known → IsSoundAccount Has → (name : List ℕ) (number : ℕ) (env : List Binding) → Makes Has library name number env
+      → AreLawsDerived Has library env
   makes-derived Has library known sound name number env (at_start m) = All-nil _
   makes-derived Has library known sound name number env (one_more {number = k} {site = s} {verdict = v} st j x) =
       let laws = stands-derived Has library known sound name k s st in
@@ -206,9 +215,11 @@ mutual
 
   pub stands-derived : (Has : Account) (library : Library) → Known → IsSoundAccount Has → (name : List ℕ) (number : ℕ) (s : Site) → Stands Has library name number s
       → AreLawsDerived Has library s.env × AreImportsDerived Has library s.imported
-  stands-derived Has library known sound name number s (stands h m e k f) = (makes-derived Has library known sound name number s.env k, finds-derived Has library known sound s.text s.tokens s.imported f)
+  stands-derived Has library known sound name number s (stands h m e k f) =
+      (makes-derived Has library known sound name number s.env k, finds-derived Has library known sound s.text s.tokens s.imported f)
 
-  finds-derived : (Has : Account) (library : Library) → Known → IsSoundAccount Has → (text : List ℕ) (tokens : List Token) (i : Imported) → Finds Has library text tokens i → AreImportsDerived Has library i
+  finds-derived : (Has : Account) (library : Library) → Known → IsSoundAccount Has → (text : List ℕ) (tokens : List Token) (i : Imported) → Finds Has library text tokens i
+      → AreImportsDerived Has library i
   finds-derived Has library known sound text tokens i (no_import n) = tt
   finds-derived Has library known sound text tokens i (of_none m e) = tt
   finds-derived Has library known sound text tokens i (of_circle m e r) = tt
@@ -220,4 +231,5 @@ pub proved-derived : (Has : Account) (library : Library) → Known → IsSoundAc
     → slice_get (terms_of site (rewrite name tree steps)) 0 ≡ Some first → slice_get (terms_of site (rewrite name tree steps)) (length (terms_of site (rewrite name tree steps)) - 1) ≡ Some last
     → IsDerived Has library (home, number) first last
 proved-derived Has library known sound home number site st j name tree steps t first last f l =
-    rewrite-derived Has library known sound home number site st (stands-sound Has library known home number site st).0 (stands-derived Has library known sound home number site st).0 j name tree steps t first last f l
+    rewrite-derived Has library known sound home number site st (stands-sound Has library known home number site st).0
+    (stands-derived Has library known sound home number site st).0 j name tree steps t first last f l

@@ -18,12 +18,15 @@ pub record IsEndless (library : Library) (chain : ℕ → List ℕ) : Type 0 whe
   pub straight : (k : ℕ) → ¬ Reaches library (chain k) (chain k)
 
 mutual
-  makes-never : (Has : Account) (library : Library) → Known → (chain : ℕ → List ℕ) → (e : IsEndless library chain) → (name : List ℕ) (number : ℕ) (env : List Binding) → Makes Has library name number env → (k : ℕ) → name ≡ chain k → (e.leads k).number < number → ⊥
+  makes-never : (Has : Account) (library : Library) → Known → (chain : ℕ → List ℕ) → (e : IsEndless library chain) → (name : List ℕ) (number : ℕ) (env : List Binding)
+      → Makes Has library name number env → (k : ℕ) → name ≡ chain k → (e.leads k).number < number → ⊥
   makes-never Has library known chain e name number env (at_start m) k n h = absurd (omega arith)
   makes-never Has library known chain e name number env (one_more {number = j} {site = s} st jd x) k n h = stands-never Has library known chain e name j s st k n (omega arith)
 
-  stands-never : (Has : Account) (library : Library) → Known → (chain : ℕ → List ℕ) → (e : IsEndless library chain) → (name : List ℕ) (number : ℕ) (s : Site) → Stands Has library name number s → (k : ℕ) → name ≡ chain k → (e.leads k).number ≤ number → ⊥
-  stands-never Has library known chain e name number s (stands {statements} h m at b f) k n l = go (cases_lt (e.leads k).number number) (makes-never Has library known chain e name number s.env b k n) (λ is. finds-never Has library known chain e s.text s.tokens s.imported f k is)
+  stands-never : (Has : Account) (library : Library) → Known → (chain : ℕ → List ℕ) → (e : IsEndless library chain) → (name : List ℕ) (number : ℕ) (s : Site) → Stands Has library name number s
+      → (k : ℕ) → name ≡ chain k → (e.leads k).number ≤ number → ⊥
+  stands-never Has library known chain e name number s (stands {statements} h m at b f) k n l =
+      go (cases_lt (e.leads k).number number) (makes-never Has library known chain e name number s.env b k n) (λ is. finds-never Has library known chain e s.text s.tokens s.imported f k is)
     where
       imports-next : (e.leads k).number ≡ number → Imports s.text s.tokens (chain (suc k))
       imports-next same =
@@ -36,7 +39,8 @@ mutual
       go (inl less) before here = before less
       go (inr more) before here = here (imports-next (omega arith))
 
-  finds-never : (Has : Account) (library : Library) → Known → (chain : ℕ → List ℕ) → (e : IsEndless library chain) → (text : List ℕ) (tokens : List Token) (i : Imported) → Finds Has library text tokens i → (k : ℕ) → Imports text tokens (chain (suc k)) → ⊥
+  finds-never : (Has : Account) (library : Library) → Known → (chain : ℕ → List ℕ) → (e : IsEndless library chain) → (text : List ℕ) (tokens : List Token) (i : Imported)
+      → Finds Has library text tokens i → (k : ℕ) → Imports text tokens (chain (suc k)) → ⊥
   finds-never Has library known chain e text tokens i (no_import none) k is = imports-not-nothing text tokens (chain (suc k)) none is
   finds-never Has library known chain e text tokens i (of_none {name} m x) k is =
       none-some (library (chain (suc k))) (e.leads (suc k)).text (ap library (imports-unique known text tokens (chain (suc k)) name is m) ∙ x) (e.leads (suc k)).is_module.there

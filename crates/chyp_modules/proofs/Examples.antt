@@ -38,7 +38,8 @@ prefix-clash = refl
 -- ---- a loop that binds an import
 
 -- the first of some bindings whose names are distinct isn't bound by others of them
-front-unbound : (bs : List Binding) (b : Binding) (rest : List Binding) (env : List Binding) → HasDistinctNames (bs ++ b ∷ rest) → is_bound env b.name ≡ false → is_bound (env ++ new_in env bs) b.name ≡ false
+front-unbound : (bs : List Binding) (b : Binding) (rest : List Binding) (env : List Binding) → HasDistinctNames (bs ++ b ∷ rest) → is_bound env b.name ≡ false
+    → is_bound (env ++ new_in env bs) b.name ≡ false
 front-unbound bs b rest env d free = each-unbound (env ++ new_in env bs) b.name (λ c has same. go c (Contains-append_cases env (new_in env bs) c has) same)
   where
     apart : (bs : List Binding) → HasDistinctNames (bs ++ b ∷ rest) → (c : Binding) → Contains bs c → ¬ (b.name ≡ c.name)

@@ -79,7 +79,15 @@ all-good-or-not Has some (move ∷ moves) fit = go (all-good-or-not Has some mov
         outcome : AreGood Has moves (length moves) ⊎ FirstBad Has moves → (o ≡ good) ⊎ (is_good o ≡ false) → AreGood Has (move ∷ moves) (suc (length moves)) ⊎ FirstBad Has (move ∷ moves)
         outcome rest (inr b) = inr (record { k = 0; move = move; outcome = o; front = λ j m i e. absurd (omega arith); at = refl; has = h; bad = b })
         outcome (inl all) (inl e) = inl (good-cons Has move moves (length moves) (subst (Has move.reason move.from move.to) e h) all)
-        outcome (inr f) (inl e) = inr (record { k = suc f.k; move = f.move; outcome = f.outcome; front = good-cons Has move moves f.k (subst (Has move.reason move.from move.to) e h) f.front; at = f.at; has = f.has; bad = f.bad })
+        outcome (inr f) (inl e) = inr (record {
+          k = suc f.k;
+          move = f.move;
+          outcome = f.outcome;
+          front = good-cons Has move moves f.k (subst (Has move.reason move.from move.to) e h) f.front;
+          at = f.at;
+          has = f.has;
+          bad = f.bad;
+        })
 
 moves-fit : (terms : List Morphism) (reasons : List Reason) → AreTypedAlike terms → All (λ r. AreEquations (rules_of r)) reasons → All IsFit (moves_of terms reasons)
 moves-fit [] reasons alike rules = All-nil _
@@ -90,10 +98,12 @@ moves-fit (t ∷ u ∷ ts) (r ∷ rs) alike rules =
     (moves-fit (u ∷ ts) rs (λ j d i k e n. alike (suc j) d (omega arith) (suc k) e (omega arith)) (λ k d h. rules (suc k) d (omega arith)))
 
 -- the rules of a rewrite that nothing refuses are equations
-pub reasons-fit : (s : Site) → IsSound s.env → (name : ℕ) (first : TermTree) (steps : List StepTree) → Passes s (rewrite name first steps) → All (λ r. AreEquations (rules_of r)) (steps_at s (rewrite name first steps))
+pub reasons-fit : (s : Site) → IsSound s.env → (name : ℕ) (first : TermTree) (steps : List StepTree) → Passes s (rewrite name first steps)
+    → All (λ r. AreEquations (rules_of r)) (steps_at s (rewrite name first steps))
 reasons-fit s sound name first steps p =
     All-map (λ r. AreEquations (rules_of r)) (λ (step : StepTree). reason_at s step.reason) steps
-    (All-from (λ (step : StepTree). AreEquations (rules_of (reason_at s step.reason))) steps (λ step c. reason-laws (λ (e : Equation). IsEquation e.0 e.1) s step.reason (λ token d. at step token c d)))
+    (All-from (λ (step : StepTree). AreEquations (rules_of (reason_at s step.reason))) steps
+    (λ step c. reason-laws (λ (e : Equation). IsEquation e.0 e.1) s step.reason (λ token d. at step token c d)))
   where
     at : (step : StepTree) (token : ℕ) → Contains steps step → Contains (names_of_reason step.reason) token → (l : IsLawThere s token) × IsEquation l.first l.last × IsEquation l.last l.first
     at step token c d =
@@ -124,7 +134,9 @@ some-judged Has known some s sound = go (known.sentences s.tokens)
     passing (inclusion imported prefix) t p = record { verdict = Accepted; gets = accepted t p refl }
     passing (showing name) t p = record { verdict = Accepted; gets = accepted t p refl }
     passing (rewrite name first steps) t p =
-        let v = some-steps Has some (moves_at s (rewrite name first steps)) (moves-fit (terms_of s (rewrite name first steps)) (steps_at s (rewrite name first steps)) (known.typed s sound (rewrite name first steps) p) (reasons-fit s sound name first steps p)) (is_open steps) in
+        let v = some-steps Has some (moves_at s (rewrite name first steps))
+        (moves-fit (terms_of s (rewrite name first steps)) (steps_at s (rewrite name first steps)) (known.typed s sound (rewrite name first steps) p) (reasons-fit s sound name first steps p))
+        (is_open steps) in
         record { verdict = v.verdict; gets = by_steps t p v.gets }
 
     of_tree : (tree : StatementTree) → IsSentence s.tokens tree → Passes s tree ⊎ Refusal s tree → SomeVerdict (IsJudged Has s)
@@ -168,7 +180,8 @@ some-binds Has library known s n v sound f j = go (declared_name s.text s.tokens
 
 -- what a module leads to, where it doesn't reach itself, makes an environment
 abbrev HasBelow : Account → Library → List ℕ → Type 0
-HasBelow Has library name = (other text : List ℕ) (ss : List (List Token)) → LeadsTo library name other → IsModule library other text ss → ¬ Reaches library other other → SomeEnv (Makes Has library other (length ss))
+HasBelow Has library name = (other text : List ℕ) (ss : List (List Token)) → LeadsTo library name other → IsModule library other text ss → ¬ Reaches library other other
+    → SomeEnv (Makes Has library other (length ss))
 
 abbrev IsDecidedBelow : Library → List ℕ → Type 0
 IsDecidedBelow library name = (other : List ℕ) → LeadsTo library name other → Reaches library other other ⊎ ¬ Reaches library other other
@@ -228,14 +241,16 @@ some-next Has library known some name k x = go x.site x.stands
         let next = some-binds Has library known s k v.verdict sound f v.gets in
         record { env = next.env; is = one_more (stands {statements = statements} h m e b f) v.gets next.is }
 
-some-front : (Has : Account) (library : Library) → Known → GivesSome Has → (name text : List ℕ) (ss : List (List Token)) → IsModule library name text ss → HasBelow Has library name → IsDecidedBelow library name
+some-front : (Has : Account) (library : Library) → Known → GivesSome Has → (name text : List ℕ) (ss : List (List Token)) → IsModule library name text ss → HasBelow Has library name
+    → IsDecidedBelow library name
     → (k : ℕ) → k ≤ length ss → SomeEnv (Makes Has library name k)
 some-front Has library known some name text ss m below decided zero h = record { env = []; is = at_start m }
 some-front Has library known some name text ss m below decided (suc k) h =
     some-next Has library known some name k (some-site Has library known name text ss m below decided k (omega arith) (some-front Has library known some name text ss m below decided k (omega arith)))
 
 -- a module that reaches only these, of which there are at most n
-pub some-module : (Has : Account) (library : Library) → Known → GivesSome Has → (n : ℕ) (names : List (List ℕ)) → length names ≤ n → (name text : List ℕ) (ss : List (List Token)) → IsModule library name text ss
+pub some-module : (Has : Account) (library : Library) → Known → GivesSome Has → (n : ℕ) (names : List (List ℕ)) → length names ≤ n → (name text : List ℕ) (ss : List (List Token))
+    → IsModule library name text ss
     → ReachesOnly library names name → SomeEnv (Makes Has library name (length ss))
 some-module Has library known some zero names short name text ss m only =
     some-front Has library known some name text ss m

@@ -74,7 +74,8 @@ meaning-bound s bound token = go (binding_at s token) refl
     go None e = tt
     go (Some b) e = let has = binding-found s.env (text_at s.text s.tokens token) b e in sense-term s.env b.sense (All-contains (λ (x : Binding). HasBoundSense s.env x.sense) s.env b bound has.0)
 
-halved-bound : (P : Morphism → Type 0) (join : Morphism → Morphism → Morphism) → P empty → ((s t : Morphism) → P s → P t → P (join s t)) → (most : ℕ) (parts : List Morphism) → All P parts → P (halved_by most join parts)
+halved-bound : (P : Morphism → Type 0) (join : Morphism → Morphism → Morphism) → P empty → ((s t : Morphism) → P s → P t → P (join s t)) → (most : ℕ) (parts : List Morphism) → All P parts
+    → P (halved_by most join parts)
 halved-bound P join none both zero [] all = none
 halved-bound P join none both zero (p ∷ []) all = all 0 p (omega arith)
 halved-bound P join none both zero (p ∷ q ∷ rest) all = none
@@ -93,12 +94,15 @@ mutual
   tree-bound env meaning bound no_wire = tt
   tree-bound env meaning bound (swap token None) = tt
   tree-bound env meaning bound (swap token (Some places)) = tt
-  tree-bound env meaning bound (chain parts semis) = halved-bound (HasBoundGenerators env) then tt (λ s t a b. (a, b)) (length (expansions_in meaning parts)) (expansions_in meaning parts) (trees-bound env meaning bound parts)
-  tree-bound env meaning bound (tensor parts) = halved-bound (HasBoundGenerators env) beside tt (λ s t a b. (a, b)) (length (expansions_in meaning parts)) (expansions_in meaning parts) (trees-bound env meaning bound parts)
+  tree-bound env meaning bound (chain parts semis) = halved-bound (HasBoundGenerators env)
+      then tt (λ s t a b. (a, b)) (length (expansions_in meaning parts)) (expansions_in meaning parts) (trees-bound env meaning bound parts)
+  tree-bound env meaning bound (tensor parts) =
+      halved-bound (HasBoundGenerators env) beside tt (λ s t a b. (a, b)) (length (expansions_in meaning parts)) (expansions_in meaning parts) (trees-bound env meaning bound parts)
 
   trees-bound : (env : List Binding) (meaning : ℕ → Morphism) → ((k : ℕ) → HasBoundGenerators env (meaning k)) → (trees : TermTrees) → All (HasBoundGenerators env) (expansions_in meaning trees)
   trees-bound env meaning bound no_terms = All-nil (HasBoundGenerators env)
-  trees-bound env meaning bound (term first rest) = All-cons (HasBoundGenerators env) (expansion_in meaning first) (expansions_in meaning rest) (tree-bound env meaning bound first) (trees-bound env meaning bound rest)
+  trees-bound env meaning bound (term first rest) =
+      All-cons (HasBoundGenerators env) (expansion_in meaning first) (expansions_in meaning rest) (tree-bound env meaning bound first) (trees-bound env meaning bound rest)
 
 -- each generator of an expanded term is bound
 pub expansion-bound : (s : Site) → AreBound s.env → (tree : TermTree) → HasBoundGenerators s.env (expansion_at s tree)
@@ -150,7 +154,8 @@ no-first None e = refl
 no-first (Some name) e = absurd cc
 
 -- where an import is accepted nothing clashes
-no-clash : (Has : Account) → Known → (s : Site) (v : Verdict) (env : List Binding) (word : ℕ) (as_word : Option ℕ) → IsJudged Has s v → v ≡ Accepted → IsSentence s.tokens (inclusion word as_word) → s.imported ≡ there env
+no-clash : (Has : Account) → Known → (s : Site) (v : Verdict) (env : List Binding) (word : ℕ) (as_word : Option ℕ) → IsJudged Has s v → v ≡ Accepted → IsSentence s.tokens (inclusion word as_word)
+    → s.imported ≡ there env
     → first_clash s.env (all_passed_on (prefix_at s as_word) env) ≡ None
 no-clash Has known s v env word as_word (no_sentence f) e t i = absurd (f.no_sentence (inclusion word as_word) t)
 no-clash Has known s v env word as_word (refused {tree} u r) e t i = absurd ((refused-bad s tree v r).1 e)
@@ -176,7 +181,8 @@ import-bound Has library known once here bs prefix meant there' none name dom co
     go (c, has, same, inl e) = record { binding = c; has = has; is = ap (λ (b : Binding). b.sense) e ∙ g.is }
     go (c, has, same, inr old) = record { binding = c; has = has; is = meant-same Has library known once here bs meant there' c g.binding old g.has same ∙ g.is }
 
-binds-bound : (Has : Account) (library : Library) → Known → GivesAtMostOne Has → (s : Site) (n : ℕ) (v : Verdict) (next : List Binding) → AreMeant Has library s.env → IsMeantImport Has library s.imported → AreBound s.env → IsBoundImport s.imported
+binds-bound : (Has : Account) (library : Library) → Known → GivesAtMostOne Has → (s : Site) (n : ℕ) (v : Verdict) (next : List Binding) → AreMeant Has library s.env
+    → IsMeantImport Has library s.imported → AreBound s.env → IsBoundImport s.imported
     → IsJudged Has s v → Binds s n v next → AreBound next
 binds-bound Has library known once s n v next meant im bound ib j (nothing e o) = bound
 binds-bound Has library known once s n v next meant im bound ib j (again e f) = bound
@@ -204,7 +210,8 @@ mutual
       let bound = stands-bound Has library known once name k s st in
       binds-bound Has library known once s k v env meant.0 meant.1 bound.0 bound.1 j x
 
-  pub stands-bound : (Has : Account) (library : Library) → Known → GivesAtMostOne Has → (name : List ℕ) (number : ℕ) (s : Site) → Stands Has library name number s → AreBound s.env × IsBoundImport s.imported
+  pub stands-bound : (Has : Account) (library : Library) → Known → GivesAtMostOne Has → (name : List ℕ) (number : ℕ) (s : Site) → Stands Has library name number s → AreBound s.env
+      × IsBoundImport s.imported
   stands-bound Has library known once name number s (stands h m e k f) = (makes-bound Has library known once name number s.env k, finds-bound Has library known once s.text s.tokens s.imported f)
 
   finds-bound : (Has : Account) (library : Library) → Known → GivesAtMostOne Has → (text : List ℕ) (tokens : List Token) (i : Imported) → Finds Has library text tokens i → IsBoundImport i

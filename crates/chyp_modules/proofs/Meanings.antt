@@ -26,7 +26,8 @@ abbrev pub IsMeantImport : Account → Library → Imported → Type 0
 IsMeantImport Has library (there env) = AreMeant Has library env
 IsMeantImport Has library _ = Unit {0}
 
-binds-meant : (Has : Account) (library : Library) (home : List ℕ) (n : ℕ) (s : Site) → Stands Has library home n s → AreMeant Has library s.env → IsMeantImport Has library s.imported → (v : Verdict) (next : List Binding)
+binds-meant : (Has : Account) (library : Library) (home : List ℕ) (n : ℕ) (s : Site) → Stands Has library home n s → AreMeant Has library s.env → IsMeantImport Has library s.imported
+    → (v : Verdict) (next : List Binding)
     → IsJudged Has s v → Binds s n v next → AreMeant Has library next
 binds-meant Has library home n s st here k v next j (nothing e o) = here
 binds-meant Has library home n s st here k v next j (again e f) = here
@@ -56,7 +57,8 @@ mutual
   finds-meant Has library text tokens i (found {name} {statements} {env} m f r k) = makes-meant Has library name (length statements) env k
 
 -- two bindings of one origin stand for one thing
-pub meant-same : (Has : Account) (library : Library) → Known → GivesAtMostOne Has → (env end : List Binding) → AreMeant Has library env → AreMeant Has library end → (a b : Binding) → Contains env a → Contains end b
+pub meant-same : (Has : Account) (library : Library) → Known → GivesAtMostOne Has → (env end : List Binding) → AreMeant Has library env → AreMeant Has library end → (a b : Binding) → Contains env a
+    → Contains end b
     → a.origin ≡ b.origin → a.sense ≡ b.sense
 meant-same Has library known once env end here behind a b c d e =
     let P : Binding → Type 0 = λ x. Means Has library x.origin x.sense in

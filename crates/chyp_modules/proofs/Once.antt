@@ -57,7 +57,8 @@ not-bad Has once moves k move outcome e g h bad =
     let same = once move.reason move.from move.to good outcome g h in
     false≢true (sym (subst (λ o. is_good o ≡ false) (sym same) bad))
 
-stops-once : (Has : Account) → GivesAtMostOne Has → (moves : List Move) (j k : ℕ) (m n : Move) (a b : Outcome) → AreGood Has moves j → slice_get moves j ≡ Some m → Has m.reason m.from m.to a → is_good a ≡ false
+stops-once : (Has : Account) → GivesAtMostOne Has → (moves : List Move) (j k : ℕ) (m n : Move) (a b : Outcome) → AreGood Has moves j → slice_get moves j ≡ Some m → Has m.reason m.from m.to a
+    → is_good a ≡ false
     → AreGood Has moves k → slice_get moves k ≡ Some n → Has n.reason n.from n.to b → is_good b ≡ false → verdict_at (j + 1) a ≡ verdict_at (k + 1) b
 stops-once Has once moves j k m n a b front e h bad behind f g worse = go (cases_lt j k) (cases_lt k j)
   where
@@ -70,7 +71,8 @@ stops-once Has once moves j k m n a b front e h bad behind f g worse = go (cases
         let outcomes = once m.reason m.from m.to a b h (subst (λ (x : Move). Has x.reason x.from x.to b) (sym move) g) in
         ap₂ (λ x y. verdict_at (x + 1) y) same outcomes
 
-stops-not : (Has : Account) → GivesAtMostOne Has → (moves : List Move) (k : ℕ) (m : Move) (a : Outcome) → slice_get moves k ≡ Some m → Has m.reason m.from m.to a → is_good a ≡ false → AreGood Has moves (length moves) → ⊥
+stops-not : (Has : Account) → GivesAtMostOne Has → (moves : List Move) (k : ℕ) (m : Move) (a : Outcome) → slice_get moves k ≡ Some m → Has m.reason m.from m.to a → is_good a ≡ false
+    → AreGood Has moves (length moves) → ⊥
 stops-not Has once moves k m a e h bad all = not-bad Has once moves k m a e (all k m (slice_get-read moves k m e).0 e) h bad
 
 pub steps-once : (Has : Account) → GivesAtMostOne Has → (moves : List Move) (o : Bool) (v w : Verdict) → IsVerdictOnSteps Has moves o v → IsVerdictOnSteps Has moves o w → v ≡ w
@@ -129,7 +131,8 @@ site-same s t h x e k i =
 
 mutual
   -- no module makes two environments
-  pub makes-unique : (Has : Account) (library : Library) → Known → GivesAtMostOne Has → (name : List ℕ) (number : ℕ) (a b : List Binding) → Makes Has library name number a → Makes Has library name number b → a ≡ b
+  pub makes-unique : (Has : Account) (library : Library) → Known → GivesAtMostOne Has → (name : List ℕ) (number : ℕ) (a b : List Binding) → Makes Has library name number a
+      → Makes Has library name number b → a ≡ b
   makes-unique Has library known once name number a b (at_start m) (at_start n) = refl
   makes-unique Has library known once name number a b (one_more {number = k} {site = s} {verdict = v} st j x) (one_more {site = t} {verdict = w} other h y) =
       let same = stands-unique Has library known once name k s t st other in
@@ -137,17 +140,20 @@ mutual
       binds-once known.trees s k v a b x (subst (λ u. Binds s k u b) (sym verdicts) (subst (λ p. Binds p k w b) (sym same) y))
 
   -- no statement stands at two sites
-  pub stands-unique : (Has : Account) (library : Library) → Known → GivesAtMostOne Has → (name : List ℕ) (number : ℕ) (s t : Site) → Stands Has library name number s → Stands Has library name number t → s ≡ t
+  pub stands-unique : (Has : Account) (library : Library) → Known → GivesAtMostOne Has → (name : List ℕ) (number : ℕ) (s t : Site) → Stands Has library name number s → Stands Has library name number t
+      → s ≡ t
   stands-unique Has library known once name number s t (stands {statements = ss} h m e k f) (stands {statements = rs} g n d l o) =
       let modules = module-unique known library name s.text t.text ss rs m n in
       let tokens = some-once (slice_get ss number) s.tokens t.tokens e (ap (λ x. slice_get x number) modules.1 ∙ d) in
       let envs = makes-unique Has library known once name number s.env t.env k l in
-      let o' : Finds Has library s.text s.tokens t.imported = subst (λ x. Finds Has library x s.tokens t.imported) (sym modules.0) (subst (λ x. Finds Has library t.text x t.imported) (sym tokens) o) in
+      let o' : Finds Has library s.text s.tokens t.imported =
+      subst (λ x. Finds Has library x s.tokens t.imported) (sym modules.0) (subst (λ x. Finds Has library t.text x t.imported) (sym tokens) o) in
       let imports = finds-unique Has library known once s.text s.tokens s.imported t.imported f o' in
       site-same s t (h ∙ sym g) modules.0 envs tokens imports
 
   -- no statement imports two things
-  pub finds-unique : (Has : Account) (library : Library) → Known → GivesAtMostOne Has → (text : List ℕ) (tokens : List Token) (i j : Imported) → Finds Has library text tokens i → Finds Has library text tokens j → i ≡ j
+  pub finds-unique : (Has : Account) (library : Library) → Known → GivesAtMostOne Has → (text : List ℕ) (tokens : List Token) (i j : Imported) → Finds Has library text tokens i
+      → Finds Has library text tokens j → i ≡ j
   finds-unique Has library known once text tokens i j (no_import n) (no_import m) = refl
   finds-unique Has library known once text tokens i j (no_import n) (of_none {name} m e) = absurd (imports-not-nothing text tokens name n m)
   finds-unique Has library known once text tokens i j (no_import n) (of_circle {name} m e r) = absurd (imports-not-nothing text tokens name n m)

@@ -85,7 +85,8 @@ import-among known text (s ∷ ss) other = go (import-or-not known text s) (impo
 pub leads-or-not : Known → (library : Library) (name other : List ℕ) → LeadsTo library name other ⊎ ¬ LeadsTo library name other
 leads-or-not known library name other = go (library name) refl
   where
-    found : (text : List ℕ) → library name ≡ Some text → (ss : (rs : List (List Token)) × AreStatements text rs) → ImportAmong text ss.0 other ⊎ NoneImports text ss.0 other → LeadsTo library name other ⊎ ¬ LeadsTo library name other
+    found : (text : List ℕ) → library name ≡ Some text → (ss : (rs : List (List Token)) × AreStatements text rs) → ImportAmong text ss.0 other ⊎ NoneImports text ss.0 other
+        → LeadsTo library name other ⊎ ¬ LeadsTo library name other
     found text e ss (inl a) = inl (record { text = text; statements = ss.0; is_module = record { there = e; are = ss.1 }; number = a.number; tokens = a.tokens; here = a.here; imports = a.imports })
     found text e ss (inr none) = inr (λ l.
         let same = module-unique known library name text l.text ss.0 l.statements (record { there = e; are = ss.1 }) l.is_module in
@@ -132,7 +133,8 @@ path-or-not known library [] a b = go (leads-or-not known library a b)
     go (inr no') = inr (nowhere no')
 path-or-not known library (c ∷ cs) a b = go (path-or-not known library cs a b) (path-or-not known library cs a c) (path-or-not known library cs c b)
   where
-    go : Path library cs a b ⊎ ¬ Path library cs a b → Path library cs a c ⊎ ¬ Path library cs a c → Path library cs c b ⊎ ¬ Path library cs c b → Path library (c ∷ cs) a b ⊎ ¬ Path library (c ∷ cs) a b
+    go : Path library cs a b ⊎ ¬ Path library cs a b → Path library cs a c ⊎ ¬ Path library cs a c → Path library cs c b ⊎ ¬ Path library cs c b → Path library (c ∷ cs) a b
+        ⊎ ¬ Path library (c ∷ cs) a b
     go (inl p) q r = inl (path-wider library c cs a b p)
     go (inr p) (inl q) (inl r) = inl (path-join library (c ∷ cs) a c b (0, omega arith, refl) (path-wider library c cs a c q) (path-wider library c cs c b r))
     go (inr p) (inr q) r = inr (λ w. elim (path-split library c cs a b w) [ inl x ↦ p x | inr x ↦ q x.0 ])
@@ -162,7 +164,8 @@ reaches-step library a b c (by_way_of {next = d} l r) m = by_way_of l (reaches-s
 
 -- a module reaches another, or it doesn't
 pub reaches-or-not : Known → (library : Library) (names : List (List ℕ)) (a b : List ℕ) → ReachesOnly library names a → Reaches library a b ⊎ ¬ Reaches library a b
-reaches-or-not known library names a b only = elim (path-or-not known library names a b) [ inl p ↦ inl (path-reaches library names a b p) | inr p ↦ inr (λ r. p (reaches-path library names a b only r)) ]
+reaches-or-not known library names a b only =
+    elim (path-or-not known library names a b) [ inl p ↦ inl (path-reaches library names a b p) | inr p ↦ inr (λ r. p (reaches-path library names a b only r)) ]
 
 -- ---- fewer names
 

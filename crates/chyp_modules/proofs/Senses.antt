@@ -55,7 +55,8 @@ goals_at site steps = filter_map (λ step. option_map (expansion_at site) step.g
 -- the name of a rewrite that nothing refuses
 steps-sense : (Has : Account) (s : Site) (name : ℕ) (tree : TermTree) (steps : List StepTree) (v : Verdict) → IsSentence s.tokens (rewrite name tree steps) → Passes s (rewrite name tree steps)
     → AreTypedAlike (terms_of s (rewrite name tree steps)) → IsVerdictOnSteps Has (moves_at s (rewrite name tree steps)) (is_open steps) v → SomeSense s v
-steps-sense Has s name tree steps v t p alike (stops {k} {move} {outcome} f e h bad) = record { sense = unproved; stands = an_unproved_rewrite (rewrite-begins s.tokens _ t refl) (bad-unproved (k + 1) outcome bad); sound = tt }
+steps-sense Has s name tree steps v t p alike (stops {k} {move} {outcome} f e h bad) =
+    record { sense = unproved; stands = an_unproved_rewrite (rewrite-begins s.tokens _ t refl) (bad-unproved (k + 1) outcome bad); sound = tt }
 steps-sense Has s name tree steps v t p alike (unfinished f o) = record { sense = unproved; stands = an_unproved_rewrite (rewrite-begins s.tokens _ t refl) (λ x. absurd cc); sound = tt }
 steps-sense Has s name tree steps v t p alike (proved f o) =
     let terms = terms_of s (rewrite name tree steps) in
@@ -78,7 +79,8 @@ sense-there Has known s env v name e (accepted t p n) = some-sense known.typed s
 sense-there Has known s env v name e (by_steps {name = n} {first} {steps} t p x) = steps-sense Has s n first steps v t p (known.typed s env (rewrite n first steps) p) x
 
 -- and that is sound
-pub sense-sound : (Has : Account) → Known → (s : Site) → IsSound s.env → (v : Verdict) (name : List ℕ) → declared_name s.text s.tokens ≡ Some name → IsJudged Has s v → (sense : Sense) → StandsFor s v sense
+pub sense-sound : (Has : Account) → Known → (s : Site) → IsSound s.env → (v : Verdict) (name : List ℕ) → declared_name s.text s.tokens ≡ Some name → IsJudged Has s v → (sense : Sense)
+    → StandsFor s v sense
     → IsSoundSense sense
 sense-sound Has known s env v name e j sense st =
     let some = sense-there Has known s env v name e j in
@@ -95,7 +97,8 @@ binds-sound Has known s n v next h k j (again e f) = h
 binds-sound Has known s n v next h k j (anew {name} {sense} e f st) =
     let b : Binding = record { name = name; origin = (s.home, n); sense = sense } in
     record {
-      each = All-append (λ (c : Binding). IsSoundSense c.sense) s.env (b ∷ []) h.each (All-cons (λ (c : Binding). IsSoundSense c.sense) b [] (sense-sound Has known s h v name e j sense st) (All-nil _));
+      each = All-append (λ (c : Binding). IsSoundSense c.sense) s.env (b ∷ []) h.each
+          (All-cons (λ (c : Binding). IsSoundSense c.sense) b [] (sense-sound Has known s h v name e j sense st) (All-nil _));
       distinct = known.names s.env b h.distinct f;
     }
 binds-sound Has known s n v next h k j (imports {as_word} {env} f t i) =

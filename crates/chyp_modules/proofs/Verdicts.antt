@@ -40,7 +40,8 @@ record SomeVerdicts (Has : Account) (library : Library) (name : List ℕ) (numbe
   many : length verdicts ≡ number
   each : (k : ℕ) (v : Verdict) → slice_get verdicts k ≡ Some v → Gets Has library name k v
 
-push-verdict : (Has : Account) (library : Library) (name : List ℕ) (number : ℕ) (v : Verdict) → SomeVerdicts Has library name number → Gets Has library name number v → SomeVerdicts Has library name (suc number)
+push-verdict : (Has : Account) (library : Library) (name : List ℕ) (number : ℕ) (v : Verdict) → SomeVerdicts Has library name number → Gets Has library name number v
+    → SomeVerdicts Has library name (suc number)
 push-verdict Has library name number v front g = record {
   verdicts = front.verdicts ++ v ∷ [];
   many = let many = front.many in let l = length-append front.verdicts (v ∷ []) in omega arith;
@@ -67,7 +68,8 @@ gets-once Has library known once name number v w a b =
 
 -- ---- modules
 
-one-environment : (Has : Account) (library : Library) → Known → GivesAtMostOne Has → (name text : List ℕ) (ss : List (List Token)) → IsModule library name text ss → SomeEnv (Makes Has library name (length ss)) → HasOneEnvironment Has library name
+one-environment : (Has : Account) (library : Library) → Known → GivesAtMostOne Has → (name text : List ℕ) (ss : List (List Token)) → IsModule library name text ss
+    → SomeEnv (Makes Has library name (length ss)) → HasOneEnvironment Has library name
 one-environment Has library known once name text ss m some = record {
   env = some.env;
   has = record { text = text; statements = ss; is_module = m; makes = some.is };
@@ -76,7 +78,8 @@ one-environment Has library known once name text ss m some = record {
       makes-unique Has library known once name (length ss) other some.env (subst (λ (x : List (List Token)). Makes Has library name (length x) other) same.1 h.makes) some.is;
 }
 
-one-list : (Has : Account) (library : Library) → Known → GivesAtMostOne Has → (name text : List ℕ) (ss : List (List Token)) → IsModule library name text ss → SomeEnv (Makes Has library name (length ss)) → HasOneListOfVerdicts Has library name
+one-list : (Has : Account) (library : Library) → Known → GivesAtMostOne Has → (name text : List ℕ) (ss : List (List Token)) → IsModule library name text ss
+    → SomeEnv (Makes Has library name (length ss)) → HasOneListOfVerdicts Has library name
 one-list Has library known once name text ss m some =
     let all = makes-verdicts Has library name (length ss) some.env some.is in
     record {

@@ -35,7 +35,8 @@ AreAllWanted library names = AreWanted library names × ((name text : List ℕ) 
 -- some modules have this many statements together
 pub data HaveStatements (library : Library) : List (List ℕ) → ℕ → Type 0 where
   of_none : HaveStatements library [] 0
-  of_more : {name text : List ℕ} {statements : List (List Token)} {names : List (List ℕ)} {n : ℕ} → IsModule library name text statements → HaveStatements library names n
+  of_more : {name text : List ℕ} {statements : List (List Token)} {names : List (List ℕ)} {n : ℕ} → IsModule library name text statements
+      → HaveStatements library names n
       → HaveStatements library (name ∷ names) (length statements + n)
 
 -- nothing is checked; or the statements of the text get these verdicts, and so many statements are checked
@@ -47,10 +48,14 @@ pub data Result : Type 0 where
 -- more modules than allowed are wanted and there, nothing is checked. Else all statements of the text and of those modules are.
 pub data Gives (Has : Account) (library : Library) (text : List ℕ) : Result → Type 0 where
   long_text : text_limit < length text → Gives Has library text too_long
-  long_module : {name whole : List ℕ} → length text ≤ text_limit → IsWanted (with_main library text) name whole → text_limit < length whole → Gives Has library text too_long
-  many_modules : {names : List (List ℕ)} → length text ≤ text_limit → AreWanted (with_main library text) names → most_modules < length names → Gives Has library text too_long
-  all_checked : {names : List (List ℕ)} {verdicts : List Verdict} {checks : ℕ} → length text ≤ text_limit → AreAllWanted (with_main library text) names → length names ≤ most_modules
-      → ((name whole : List ℕ) → IsWanted (with_main library text) name whole → length whole ≤ text_limit) → AreVerdicts Has (with_main library text) [] verdicts
+  long_module : {name whole : List ℕ} → length text ≤ text_limit → IsWanted (with_main library text) name whole → text_limit < length whole
+      → Gives Has library text too_long
+  many_modules : {names : List (List ℕ)} → length text ≤ text_limit → AreWanted (with_main library text) names → most_modules < length names
+      → Gives Has library text too_long
+  all_checked : {names : List (List ℕ)} {verdicts : List Verdict} {checks : ℕ} → length text ≤ text_limit
+      → AreAllWanted (with_main library text) names → length names ≤ most_modules
+      → ((name whole : List ℕ) → IsWanted (with_main library text) name whole → length whole ≤ text_limit)
+      → AreVerdicts Has (with_main library text) [] verdicts
       → HaveStatements (with_main library text) ([] ∷ names) checks → Gives Has library text (checked verdicts checks)
 
 -- a text gives exactly one result

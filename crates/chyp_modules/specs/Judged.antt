@@ -21,7 +21,9 @@ moves_at site tree = moves_of (terms_of site tree) (steps_at site tree)
 -- else it is accepted, and a rewrite gets the verdict on its steps.
 pub data IsJudged (Has : Account) (site : Site) : Verdict → Type 0 where
   no_sentence : {k : ℕ} → FailsAt site.tokens k → IsJudged Has site (Syntax k)
-  refused : {tree : StatementTree} {verdict : Verdict} → IsSentence site.tokens tree → IsRefused site tree verdict → IsJudged Has site verdict
+  refused : {tree : StatementTree} {verdict : Verdict} → IsSentence site.tokens tree → IsRefused site tree verdict
+      → IsJudged Has site verdict
   accepted : {tree : StatementTree} → IsSentence site.tokens tree → Passes site tree → is_rewrite tree ≡ false → IsJudged Has site Accepted
   by_steps : {name : ℕ} {first : TermTree} {steps : List StepTree} {verdict : Verdict} → IsSentence site.tokens (rewrite name first steps)
-      → Passes site (rewrite name first steps) → IsVerdictOnSteps Has (moves_at site (rewrite name first steps)) (is_open steps) verdict → IsJudged Has site verdict
+      → Passes site (rewrite name first steps) → IsVerdictOnSteps Has (moves_at site (rewrite name first steps)) (is_open steps) verdict
+      → IsJudged Has site verdict

@@ -30,7 +30,8 @@ ReachesFinitelyMany library name = (names : List (List ℕ)) × ReachesOnly libr
 
 -- the library of finitely many names, each with its text or absent; all others are absent
 abbrev pub library_of : List (List ℕ × Option (List ℕ)) → Library
-library_of modules name = option_map_or (λ (m : List ℕ × Option (List ℕ)). m.1) (find (λ (m : List ℕ × Option (List ℕ)). bytes_eq name m.0) modules) None
+library_of modules name = option_map_or (λ (m : List ℕ × Option (List ℕ)). m.1)
+    (find (λ (m : List ℕ × Option (List ℕ)). bytes_eq name m.0) modules) None
 
 -- a module makes exactly one environment
 pub record HasOneEnvironment (Has : Account) (library : Library) (name : List ℕ) : Type 0 where
@@ -46,7 +47,8 @@ pub record HasOneListOfVerdicts (Has : Account) (library : Library) (name : List
 
 -- so it is for each module that is there and reaches finitely many, in whatever circles others import one another
 abbrev pub ModulesAreDetermined : Account → Type 0
-ModulesAreDetermined Has = (library : Library) (name text : List ℕ) → library name ≡ Some text → ReachesFinitelyMany library name → HasOneEnvironment Has library name × HasOneListOfVerdicts Has library name
+ModulesAreDetermined Has = (library : Library) (name text : List ℕ) → library name ≡ Some text → ReachesFinitelyMany library name
+    → HasOneEnvironment Has library name × HasOneListOfVerdicts Has library name
 
 -- and so for each main text, over any finitely many modules
 abbrev pub TextsAreDetermined : Account → Type 0
@@ -55,14 +57,17 @@ TextsAreDetermined Has = (modules : List (List ℕ × Option (List ℕ))) (text 
 
 -- a rewrite that is proved has a derivation, from its first term to its last, from rules that are permitted to it
 abbrev pub ProvedRewritesAreDerived : Account → Type 0
-ProvedRewritesAreDerived Has = (library : Library) (home : List ℕ) (number : ℕ) (site : Site) → Stands Has library home number site → IsJudged Has site Proved
+ProvedRewritesAreDerived Has = (library : Library) (home : List ℕ) (number : ℕ) (site : Site) → Stands Has library home number site
+    → IsJudged Has site Proved
     → (name : ℕ) (tree : TermTree) (steps : List StepTree) → IsSentence site.tokens (rewrite name tree steps) → (first last : Morphism)
-    → slice_get (terms_of site (rewrite name tree steps)) 0 ≡ Some first → slice_get (terms_of site (rewrite name tree steps)) (length (terms_of site (rewrite name tree steps)) - 1) ≡ Some last
+    → slice_get (terms_of site (rewrite name tree steps)) 0 ≡ Some first
+    → slice_get (terms_of site (rewrite name tree steps)) (length (terms_of site (rewrite name tree steps)) - 1) ≡ Some last
     → IsDerived Has library (home, number) first last
 
 -- bindings of one origin have one sense, in all environments that modules of one library make
 abbrev pub OriginsDetermineSenses : Account → Type 0
-OriginsDetermineSenses Has = (library : Library) (name other : List ℕ) (m n : ℕ) (env end : List Binding) → Makes Has library name m env → Makes Has library other n end
+OriginsDetermineSenses Has = (library : Library) (name other : List ℕ) (m n : ℕ) (env end : List Binding) → Makes Has library name m env
+    → Makes Has library other n end
     → (a b : Binding) → Contains env a → Contains end b → a.origin ≡ b.origin → a.sense ≡ b.sense
 
 -- a binding of the environment is that of the generator
@@ -88,4 +93,5 @@ HasBoundSense env broken = Unit {0}
 
 -- each generator of a term that a name stands for has a binding of its own in the same environment
 abbrev pub GeneratorsAreBound : Account → Type 0
-GeneratorsAreBound Has = (library : Library) (name : List ℕ) (number : ℕ) (env : List Binding) → Makes Has library name number env → (b : Binding) → Contains env b → HasBoundSense env b.sense
+GeneratorsAreBound Has = (library : Library) (name : List ℕ) (number : ℕ) (env : List Binding) → Makes Has library name number env
+    → (b : Binding) → Contains env b → HasBoundSense env b.sense

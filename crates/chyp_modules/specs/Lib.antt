@@ -6,4 +6,4 @@ pub mod Modules
 pub mod Rules
 pub mod Laws
 pub mod Checking
-pub mod Trial
+pub mod Unlimited

@@ -14,23 +14,30 @@ mutual
   -- The first statements of a module, as many as this, make this environment: each of them, once it has its verdict, binds
   -- what it binds.
   pub data Makes (Has : Account) (library : Library) : List ℕ → ℕ → List Binding → Type 0 where
-    at_start : {name text : List ℕ} {statements : List (List Token)} → IsModule library name text statements → Makes Has library name zero []
+    at_start : {name text : List ℕ} {statements : List (List Token)} → IsModule library name text statements
+        → Makes Has library name zero []
     one_more : {name : List ℕ} {number : ℕ} {site : Site} {verdict : Verdict} {next : List Binding} → Stands Has library name number site
         → IsJudged Has site verdict → Binds site number verdict next → Makes Has library name (suc number) next
 
   -- the statement of this number in a module stands at this site, behind the statements before it
   pub data Stands (Has : Account) (library : Library) : List ℕ → ℕ → Site → Type 0 where
-    stands : {name : List ℕ} {number : ℕ} {site : Site} {statements : List (List Token)} → site.home ≡ name → IsModule library name site.text statements
-        → slice_get statements number ≡ Some site.tokens → Makes Has library name number site.env → Finds Has library site.text site.tokens site.imported → Stands Has library name number site
+    stands : {name : List ℕ} {number : ℕ} {site : Site} {statements : List (List Token)} → site.home ≡ name
+        → IsModule library name site.text statements
+        → slice_get statements number ≡ Some site.tokens → Makes Has library name number site.env
+        → Finds Has library site.text site.tokens site.imported → Stands Has library name number site
 
   -- a statement with these tokens, in a module with this text, imports this
   pub data Finds (Has : Account) (library : Library) : List ℕ → List Token → Imported → Type 0 where
     no_import : {text : List ℕ} {tokens : List Token} → ImportsNothing tokens → Finds Has library text tokens nothing
-    of_none : {text name : List ℕ} {tokens : List Token} → Imports text tokens name → library name ≡ None → Finds Has library text tokens absent
-    of_circle : {text name whole : List ℕ} {tokens : List Token} → Imports text tokens name → library name ≡ Some whole → Reaches library name name
+    of_none : {text name : List ℕ} {tokens : List Token} → Imports text tokens name → library name ≡ None
+        → Finds Has library text tokens absent
+    of_circle : {text name whole : List ℕ} {tokens : List Token} → Imports text tokens name → library name ≡ Some whole
+        → Reaches library name name
         → Finds Has library text tokens on_cycle
-    of_module : {text name whole : List ℕ} {tokens : List Token} {statements : List (List Token)} {env : List Binding} → Imports text tokens name
-        → IsModule library name whole statements → ¬ Reaches library name name → Makes Has library name (length statements) env → Finds Has library text tokens (there env)
+    of_module : {text name whole : List ℕ} {tokens : List Token} {statements : List (List Token)} {env : List Binding}
+        → Imports text tokens name
+        → IsModule library name whole statements → ¬ Reaches library name name → Makes Has library name (length statements) env
+        → Finds Has library text tokens (there env)
 
 -- the statements of a module make this environment, which is what the module passes on
 pub record HasEnvironment (Has : Account) (library : Library) (name : List ℕ) (env : List Binding) : Type 0 where

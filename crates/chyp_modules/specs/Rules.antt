@@ -52,7 +52,8 @@ cited_by site tree = flat_map rules_of (steps_at site tree)
 pub data RestsOn (Has : Account) (library : Library) : List ℕ × ℕ → List ℕ × ℕ → Type 0 where
   itself : {origin : List ℕ × ℕ} → IsRule library origin → RestsOn Has library origin origin
   by_name : {home : List ℕ} {number : ℕ} {site : Site} {binding : Binding} {origin : List ℕ × ℕ}
-      → Stands Has library home number site → Cites site binding → RestsOn Has library binding.origin origin → RestsOn Has library (home, number) origin
+      → Stands Has library home number site → Cites site binding → RestsOn Has library binding.origin origin
+      → RestsOn Has library (home, number) origin
 
 -- the equation is permitted to the statement: it is that of a rule on which the statement rests
 pub record Permits (Has : Account) (library : Library) (origin : List ℕ × ℕ) (equation : Morphism × Morphism) : Type 0 where
@@ -68,6 +69,8 @@ pub record IsDerived (Has : Account) (library : Library) (origin : List ℕ × �
 
 -- where a rewrite is proved, its last term follows from its first by the equations that it cites; names stand for sound things
 abbrev pub ProvedRewritesFollow : Account → Type 0
-ProvedRewritesFollow Has = (site : Site) → IsSound site.env → IsJudged Has site Proved → (name : ℕ) (tree : TermTree) (steps : List StepTree) → IsSentence site.tokens (rewrite name tree steps) → (first last : Morphism)
-    → slice_get (terms_of site (rewrite name tree steps)) 0 ≡ Some first → slice_get (terms_of site (rewrite name tree steps)) (length (terms_of site (rewrite name tree steps)) - 1) ≡ Some last
+ProvedRewritesFollow Has = (site : Site) → IsSound site.env → IsJudged Has site Proved
+    → (name : ℕ) (tree : TermTree) (steps : List StepTree) → IsSentence site.tokens (rewrite name tree steps) → (first last : Morphism)
+    → slice_get (terms_of site (rewrite name tree steps)) 0 ≡ Some first
+    → slice_get (terms_of site (rewrite name tree steps)) (length (terms_of site (rewrite name tree steps)) - 1) ≡ Some last
     → Derives (cited_by site (rewrite name tree steps)) first last

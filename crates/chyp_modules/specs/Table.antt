@@ -46,14 +46,18 @@ Account = Reason → Morphism → Morphism → Outcome → Type 0
 
 -- The table of steps. A step without rule is good where the laws derive its equation. A step by l = r is good where that
 -- rewrites, in some context, the term to the goal, and l has few enough placements in the term.
-pub data HasOutcome (Placements Occurrences : Morphism → Morphism → ℕ → Type 0) (Simp : List (Morphism × Morphism) → Morphism → Morphism → Outcome → Type 0) : Reason → Morphism → Morphism → Outcome → Type 0 where
+pub data HasOutcome (Placements Occurrences : Morphism → Morphism → ℕ → Type 0) (Simp : List (Morphism × Morphism) → Morphism → Morphism
+    → Outcome → Type 0) : Reason → Morphism → Morphism → Outcome → Type 0 where
   derived : {t u : Morphism} → Derives [] t u → HasOutcome Placements Occurrences Simp by_laws t u good
   not_derived : {t u : Morphism} → ¬ Derives [] t u → HasOutcome Placements Occurrences Simp by_laws t u differs
-  wide : {l r t u : Morphism} {n : ℕ} → Placements l t n → most_placements < n → HasOutcome Placements Occurrences Simp (by_rule (l, r)) t u (too_wide n)
-  rewrites : {l r t u : Morphism} {n : ℕ} → Placements l t n → n ≤ most_placements → RewritesInContext l r t u → HasOutcome Placements Occurrences Simp (by_rule (l, r)) t u good
+  wide : {l r t u : Morphism} {n : ℕ} → Placements l t n → most_placements < n
+      → HasOutcome Placements Occurrences Simp (by_rule (l, r)) t u (too_wide n)
+  rewrites : {l r t u : Morphism} {n : ℕ} → Placements l t n → n ≤ most_placements → RewritesInContext l r t u
+      → HasOutcome Placements Occurrences Simp (by_rule (l, r)) t u good
   rewrites_not : {l r t u : Morphism} {n k : ℕ} → Placements l t n → n ≤ most_placements → ¬ RewritesInContext l r t u → Occurrences l t k
       → HasOutcome Placements Occurrences Simp (by_rule (l, r)) t u (no_rewrite k)
-  simplified : {rules : List (Morphism × Morphism)} {t u : Morphism} {outcome : Outcome} → Simp rules t u outcome → HasOutcome Placements Occurrences Simp (by_simp rules) t u outcome
+  simplified : {rules : List (Morphism × Morphism)} {t u : Morphism} {outcome : Outcome} → Simp rules t u outcome
+      → HasOutcome Placements Occurrences Simp (by_simp rules) t u outcome
 
 -- a step, from a term to its goal
 pub record Move : Type 0 where
@@ -75,7 +79,8 @@ AreGood Has moves k = (j : ℕ) (move : Move) → j < k → slice_get moves j �
 -- The verdict on a rewrite that nothing refuses: that of the first step that isn't good; else it is unfinished where it has a
 -- hole or no step, and else it is proved.
 pub data IsVerdictOnSteps (Has : Account) (moves : List Move) (open' : Bool) : Verdict → Type 0 where
-  stops : {k : ℕ} {move : Move} {outcome : Outcome} → AreGood Has moves k → slice_get moves k ≡ Some move → Has move.reason move.from move.to outcome
+  stops : {k : ℕ} {move : Move} {outcome : Outcome} → AreGood Has moves k → slice_get moves k ≡ Some move
+      → Has move.reason move.from move.to outcome
       → is_good outcome ≡ false → IsVerdictOnSteps Has moves open' (verdict_at (k + 1) outcome)
   unfinished : AreGood Has moves (length moves) → IsTrue open' → IsVerdictOnSteps Has moves open' Unfinished
   proved : AreGood Has moves (length moves) → open' ≡ false → IsVerdictOnSteps Has moves open' Proved

@@ -1,14 +1,16 @@
 //! The modules of a library: their environments, their verdicts, and the rules that their laws rest on.
-//! Law functions, whose bodies only call those of the crates below. (`Tried` stands for the table of
-//! steps until placements, occurrences and `simp` are there.)
+//! No code cites them yet.
+//!
+//! These are law functions, whose bodies only call those of the crates below. `Unlimited` stands for the
+//! table of steps until placements, occurrences and `simp` are there.
 #![tactic(auto)]
 
 ghost use Rattle.chyp_modules.specs.Checking.{TextsHaveOneResult};
 ghost use Rattle.chyp_modules.specs.Laws.{GeneratorsAreBound, ModulesAreDetermined, OriginsDetermineSenses, ProvedRewritesAreDerived, TextsAreDetermined};
 ghost use Rattle.chyp_modules.specs.Rules.{ProvedRewritesFollow};
-ghost use Rattle.chyp_modules.specs.Trial.{RewritingsAreDecided, Tried};
+ghost use Rattle.chyp_modules.specs.Unlimited.{Unlimited};
 
-use chyp_laws::graphs_decide_the_laws;
+use chyp_laws::{graphs_decide_the_laws, rewrites_are_graphs};
 use chyp_lex::every_text_has_one_token_list;
 use chyp_syntax::{
     each_beginning_of_a_prefix_is_one, each_chunk_is_a_sentence_or_fails,
@@ -19,9 +21,9 @@ use chyp_theory::types_are_decided;
 /// Each module that is there, and reaches finitely many, has exactly one environment and one list of
 /// verdicts; so has each main text over finitely many modules; and each text gives exactly one result.
 pub fn modules_are_determined()
-    ensures modules { RewritingsAreDecided → ModulesAreDetermined Tried }
-    ensures texts { RewritingsAreDecided → TextsAreDetermined Tried }
-    ensures results { RewritingsAreDecided → TextsHaveOneResult Tried }
+    ensures modules { ModulesAreDetermined Unlimited }
+    ensures texts { TextsAreDetermined Unlimited }
+    ensures results { TextsHaveOneResult Unlimited }
 {
     every_text_has_one_token_list();
     each_text_has_one_list_of_chunks();
@@ -30,13 +32,14 @@ pub fn modules_are_determined()
     each_sentence_has_one_tree();
     types_are_decided();
     graphs_decide_the_laws();
+    rewrites_are_graphs();
 }
 
 /// A rewrite that is proved has a derivation from the equations that it cites, and one from rules that
 /// are permitted to it.
 pub fn proved_rewrites_are_derived()
-    ensures follows { ProvedRewritesFollow Tried }
-    ensures derived { ProvedRewritesAreDerived Tried }
+    ensures follows { ProvedRewritesFollow Unlimited }
+    ensures derived { ProvedRewritesAreDerived Unlimited }
 {
     every_text_has_one_token_list();
     each_text_has_one_list_of_chunks();
@@ -49,8 +52,8 @@ pub fn proved_rewrites_are_derived()
 /// Entries of one origin have one meaning in all environments of a library, and each generator of an
 /// entry's terms has an entry of its own.
 pub fn origins_determine_meanings()
-    ensures senses { OriginsDetermineSenses Tried }
-    ensures generators { GeneratorsAreBound Tried }
+    ensures senses { OriginsDetermineSenses Unlimited }
+    ensures generators { GeneratorsAreBound Unlimited }
 {
     every_text_has_one_token_list();
     each_text_has_one_list_of_chunks();
