@@ -48,19 +48,19 @@ fn kept_wires(
 ) -> Result<(Vec<Sort>, Vec<WireId>), NoMemory>
     requires { All (λ w. w < length graph.now.wires) images.now }
     ensures wires { IfOk result (λ kept. kept.0.items ≡ permuted graph.now.wires (kept_wires graph.now images.now)) }
-    ensures numbers { IfOk result (λ kept. kept.1.items ≡ map (kept_before images.now) (count_from 0 (length graph.now.wires))) }
+    ensures before { IfOk result (λ kept. kept.1.items ≡ map (kept_before images.now) (count_from 0 (length graph.now.wires))) }
 {
     let count = graph.wire_count();
     let marks = wire_marks(alloc, count, images)?;
     let mut wires = Vec::new(alloc);
-    let mut numbers = Vec::with_capacity(alloc, count as usize)?;
+    let mut before = Vec::with_capacity(alloc, count as usize)?;
     for w in 0..count {
-        numbers.push(WireId(wires.len() as u32))?;
+        before.push(WireId(wires.len() as u32))?;
         if !marks[w as usize] {
             wires.push(graph.wire_sort(WireId(w)).share()?)?;
         }
     }
-    Ok((wires, numbers))
+    Ok((wires, before))
 }
 
 /// Adds the wires of a graph behind others, and gives their numbers.

@@ -60,7 +60,8 @@ pub(crate) fn kept_edges(
     requires images { All (λ k. k < length graph.now.edges) images.now }
     requires users { length numbers.now.users.items ≡ length graph.now.wires }
     requires makers { length numbers.now.makers.items ≡ length graph.now.wires }
-    ensures { IfOk result (λ edges. edges.items ≡ map (renumbered_by numbers.now) (permuted graph.now.edges (kept_edges graph.now images.now))) }
+    ensures { IfOk result (λ edges. edges.items
+        ≡ map (renumbered_by numbers.now) (permuted graph.now.edges (kept_edges graph.now images.now))) }
 {
     let marks = edge_marks(alloc, graph.edge_count(), images)?;
     let mut edges = Vec::new(alloc);

@@ -12,7 +12,12 @@ use chyp_graph::{EdgeParts, Graph, WireIds};
 use chyp_pattern::{Occurrence, Pattern};
 use std::alloc::Global;
 
-/// The graph with the occurrence of the left side replaced by the right side.
+/// The graph with the occurrence of the left side replaced by the right side: the pushout step of
+/// rewriting graphs (Bonchi, Gadducci, Kissinger, Sobociński and Zanasi, String Diagram Rewrite Theory
+/// II). The images of edges and wires go, what is left keeps its order, and the edges and wires of the
+/// right side come behind it. What made the image of the i-th input of the left side makes the i-th
+/// input of the right side, and what used the image of the i-th output uses the i-th output. It takes
+/// time and memory in proportion to the graph, the occurrence and the right side together.
 ///
 /// # Errors
 ///

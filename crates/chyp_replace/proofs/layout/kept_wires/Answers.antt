@@ -33,6 +33,6 @@ loop-w-preserved c =
       | else-not-index x ↦ ap (λ v. v.items) x.wires-is ∙ kept-skip sorts images w c.loop-w.wires.items c.loop-w.invariant.0 (apart true x.if-not-index.false)
     ] in (
       wires,
-      number-more images w c.len.result c.loop-w.numbers.items c.push.new.self.items c.loop-w.invariant.1
+      number-more images w c.len.result c.loop-w.before.items c.push.new.self.items c.loop-w.invariant.1
           (c.len.ensures ∙ c.loop-w.wires.ok.0 ∙ kept-length sorts images w c.loop-w.wires.items c.loop-w.invariant.0 h) c.in_ok-push.ensures.items,
     )

@@ -7,4 +7,4 @@ use Rattle.chyp_replace.proofs.layout.kept_wires.Given as goal
 abbrev pub invariant-loop-w : goal.invariant-loop-w
 invariant-loop-w l =
     (l.wires.items ≡ permuted l.graph.wires (inner l.images l.w))
-    × (l.numbers.items ≡ map (kept_before l.images) (count_from 0 l.w))
+    × (l.before.items ≡ map (kept_before l.images) (count_from 0 l.w))

@@ -16,6 +16,6 @@ returns c =
     let count = length c.args.right.now.wires in
     record {
       wires = c.in_ok-moved.ensures.wires ∙ ap (λ l. l ++ c.args.right.now.wires) c.in_ok-wires.ensures.wires;
-      kept = c.in_ok-wires.ensures.numbers;
+      kept = c.in_ok-wires.ensures.before;
       moved = c.in_ok-moved.ensures.numbers ∙ ap (λ n. count_from n count) (kept-length sorts c.args.images.now (length sorts) c.in_ok-wires.wires.items c.in_ok-wires.ensures.wires (omega arith));
     }
