@@ -1,13 +1,13 @@
 // Small terms, over plain wires, by words.
 ghost use Rattle.std.specs.Prelude.{◌≡◌, ◌≤◌, [], IfOk, IsTrue};
-ghost use Rattle.chyp_term.specs.Limits.{most_size};
+ghost use Rattle.chyp_term.specs.Limits.{IsWithinLimits, most_size};
 ghost use Rattle.chyp_term.specs.Measure.{size_of};
 ghost use Rattle.chyp_term.specs.Morphism.{IsTyped};
 ghost use Rattle.chyp_term.specs.Term.{morphism_of};
 
 use chyp_base::{Name, NoMemory, Sort, Sorts};
 use chyp_graph::Graph;
-use chyp_term::{Perm, Places, Term, shape_of, size};
+use chyp_term::{MOST_DEPTH, MOST_GENERATORS, MOST_SIZE, Perm, Places, Term, depth, gens, shape_of, size};
 use std::alloc::Global;
 use std::rc::Rc;
 use std::test::Fail;
@@ -118,24 +118,32 @@ pub(crate) fn term(alloc: Global, words: &str) -> Result<Term, Fail> {
     }
 }
 
-/// Whether a term is typed and small.
+/// Whether a term is typed and within the limits.
 fn is_good(alloc: Global, term: &Term) -> bool
     ensures typed { IsTrue result → IsTyped (morphism_of term.now) }
-    ensures small { IsTrue result → size_of (morphism_of term.now) ≤ most_size }
+    ensures within { IsTrue result → IsWithinLimits (morphism_of term.now) }
 {
-    size(term) <= 200_000 && shape_of(alloc, term).is_ok()
+    is_within(term) && shape_of(alloc, term).is_ok()
 }
 
-/// The term of these words, which is typed and small.
+/// Whether a term is within the limits on one term.
+fn is_within(term: &Term) -> bool
+    ensures { IsTrue result → IsWithinLimits (morphism_of term.now) }
+{
+    gens(term) <= MOST_GENERATORS && size(term) <= MOST_SIZE && depth(term) <= MOST_DEPTH
+}
+
+/// The term of these words, which is typed and within the limits.
 pub(crate) fn typed(alloc: Global, words: &str) -> Result<Term, Fail>
     ensures typed { IfOk result (λ term. IsTyped (morphism_of term)) }
+    ensures within { IfOk result (λ term. IsWithinLimits (morphism_of term)) }
     ensures small { IfOk result (λ term. size_of (morphism_of term) ≤ most_size) }
 {
     let term = term(alloc, words)?;
     if is_good(alloc, &term) {
         return Ok(term);
     }
-    Err(Fail::new("no small typed term"))
+    Err(Fail::new("no typed term within the limits"))
 }
 
 /// The graph of the term of these words.

@@ -4,10 +4,11 @@ use Rattle.chyp_syntax.specs.Statement.{StatementTree, generator}
 use Rattle.chyp_term.specs.Morphism.{Morphism}
 use Rattle.chyp_term.specs.Measure.{size_of}
 use Rattle.chyp_term.specs.Limits.{most_ports, IsWithinLimits}
+use Rattle.chyp_names.specs.declared.limits.TheConstants.{MOST_TOGETHER}
 
 -- the greatest size of all terms of a statement together
 abbrev pub most_together : ℕ
-most_together = 4000000
+most_together = MOST_TOGETHER
 
 -- no generator is declared with too many wires
 abbrev pub HasFewPorts : StatementTree → Type 0

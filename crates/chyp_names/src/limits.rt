@@ -13,15 +13,9 @@ ghost use Rattle.chyp_names.specs.Limits.{AreWithinLimits, most_together};
 
 use chyp_env::{ChunkView, Env, Sizes, sizes_of};
 use chyp_syntax::{Ast, StepAst, TermAst};
+use chyp_term::{MOST_DEPTH, MOST_GENERATORS, MOST_PORTS, MOST_SIZE};
 
-const MOST_PORTS: u64 = 64;
-
-const MOST_GENERATORS: u64 = 1_024;
-
-const MOST_SIZE: u64 = 200_000;
-
-const MOST_DEPTH: u64 = 256;
-
+// The greatest size of all terms of a statement together.
 const MOST_TOGETHER: u64 = 4_000_000;
 
 // Whether a term with these measures is small enough.

@@ -5,6 +5,7 @@ use Rattle.chyp_lex.specs.declared.token.TokenKind.TheVariants.{Ident, Number, C
 use Rattle.chyp_syntax.specs.declared.step.ReasonAst.{ReasonAst}
 use Rattle.chyp_syntax.specs.declared.step.ReasonAst.TheVariants.{Plain, Rule, Simp}
 use Rattle.chyp_syntax.specs.declared.step.SignedAst.{SignedAst}
+use Rattle.chyp_syntax.specs.declared.terms.TheConstants.{MOST_NESTED}
 use Rattle.chyp_syntax.specs.Numbered.{NumberedToken, numbered, kind_of, value_of, IsName}
 use Rattle.chyp_syntax.specs.Statement.{StatementTree, generator, definition, rule, rewrite, inclusion, showing}
 use Rattle.chyp_syntax.specs.Step.{StepTree}
@@ -82,7 +83,7 @@ pub data IsReason : List NumberedToken → ReasonAst → Type 0 where
 
 -- the parentheses of a sentence's terms nest at most this deep
 abbrev pub most_nested : ℕ
-most_nested = 256
+most_nested = MOST_NESTED
 
 -- "=" term [by]
 pub data IsStep : List NumberedToken → StepTree → Type 0 where

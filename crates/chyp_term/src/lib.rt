@@ -13,6 +13,7 @@
 
 mod equation;
 mod equations;
+mod limits;
 mod measure;
 mod perm;
 mod places;
@@ -25,6 +26,7 @@ mod terms;
 
 pub use equation::Equation;
 pub use equations::Equations;
+pub use limits::{MOST_DEPTH, MOST_GENERATORS, MOST_PORTS, MOST_SIZE};
 pub use measure::{depth, gens, size};
 pub use perm::Perm;
 pub use places::Places;
