@@ -174,9 +174,16 @@ some-sense typed s env v name e (accepted {tree} t p n) = go tree t p n
         record { sense = abbreviation (expansion_at s tree); stands = a_term t refl; sound = (is.left, p.small.each 0 (expansion_at s tree) (omega arith)) }
     go (rule n left equals right) t p m =
         let alike = typed s env (rule n left equals right) p in
-        record { sense = law (expansion_at s left) (expansion_at s right); stands = a_rule t refl; sound =
-            (alike 0 (expansion_at s left) (omega arith) 1 (expansion_at s right) (omega arith), p.small.each 0 (expansion_at s left) (omega arith), p.small.each 1 (expansion_at s right)
-            (omega arith)) }
+        record {
+          sense = law (expansion_at s left) (expansion_at s right);
+          stands = a_rule t refl;
+          sound = (
+            alike 0 (expansion_at s left) (omega arith) 1 (expansion_at s right) (omega arith),
+            p.small.each 0 (expansion_at s left) (omega arith),
+            p.small.each 1 (expansion_at s right)
+                (omega arith),
+          );
+        }
     go (inclusion imported prefix) t p m = absurd (imports-nothing s imported prefix name t e)
     go (showing n) t p m = absurd (shows-nothing s n name t e)
     go (rewrite n first steps) t p m = absurd (false≢true (sym m))

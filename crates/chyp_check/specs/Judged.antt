@@ -24,7 +24,8 @@ pub data IsJudged (site : Site) : Verdict → Type 0 where
   refused : {tree : StatementTree} {verdict : Verdict} → IsSentence site.tokens tree → IsRefused site tree verdict → IsJudged site verdict
   accepted : {tree : StatementTree} → IsSentence site.tokens tree → Passes site tree → is_rewrite tree ≡ false → IsJudged site Accepted
   by_steps : {name : ℕ} {first : TermTree} {steps : List StepTree} {verdict : Verdict} → IsSentence site.tokens (rewrite name first steps)
-      → Passes site (rewrite name first steps) → IsVerdictOnSteps (terms_of site (rewrite name first steps)) steps verdict → IsJudged site verdict
+      → Passes site (rewrite name first steps) → IsVerdictOnSteps (terms_of site (rewrite name first steps)) steps verdict
+      → IsJudged site verdict
 
 -- the verdict of a statement that nothing refuses and that has these terms
 abbrev pub IsVerdictOf : List Morphism → StatementTree → Verdict → Type 0

@@ -47,11 +47,13 @@ AreDerived equations k = (j : ℕ) (s t : Morphism) → j < k → slice_get equa
 -- unfinished if it has no step or a hole, and else it is proved: its first term and its last have a derivation.
 pub data IsVerdictOnSteps (terms : List Morphism) (steps : List StepTree) : Verdict → Type 0 where
   not_built : IsTrue (needs_rules steps) → IsVerdictOnSteps terms steps NotBuilt
-  differs : {k : ℕ} {s t : Morphism} → needs_rules steps ≡ false → AreDerived (equations_between terms) k → slice_get (equations_between terms) k ≡ Some (s, t)
+  differs : {k : ℕ} {s t : Morphism} → needs_rules steps ≡ false → AreDerived (equations_between terms) k
+      → slice_get (equations_between terms) k ≡ Some (s, t)
       → IsEquation s t → ¬ Derives [] s t → IsVerdictOnSteps terms steps (Differs (k + 1))
   unfinished : needs_rules steps ≡ false → AreDerived (equations_between terms) (length (equations_between terms)) → IsTrue (is_open steps)
       → IsVerdictOnSteps terms steps Unfinished
-  proved : {first last : Morphism} → needs_rules steps ≡ false → AreDerived (equations_between terms) (length (equations_between terms)) → is_open steps ≡ false
+  proved : {first last : Morphism} → needs_rules steps ≡ false → AreDerived (equations_between terms) (length (equations_between terms))
+      → is_open steps ≡ false
       → slice_get terms 0 ≡ Some first → slice_get terms (length terms - 1) ≡ Some last → Derives [] first last
       → IsVerdictOnSteps terms steps Proved
 

@@ -17,9 +17,11 @@ site home text env statement = record { home = home; text = text; env = env; tok
 -- each is judged behind those before it, and binds its name once it has its verdict.
 pub data GetVerdicts (home text : List ℕ) : ℕ → List Binding → List (List Token) → List Verdict → List Binding → Type 0 where
   no_more : {number : ℕ} {env : List Binding} → GetVerdicts home text number env [] [] env
-  one_more : {number : ℕ} {env next end : List Binding} {statement : List Token} {rest : List (List Token)} {verdict : Verdict} {verdicts : List Verdict}
+  one_more : {number : ℕ} {env next end : List Binding} {statement : List Token} {rest : List (List Token)} {verdict : Verdict}
+      {verdicts : List Verdict}
       → IsJudged (site home text env statement) verdict → Binds (site home text env statement) number verdict next
-      → GetVerdicts home text (suc number) next rest verdicts end → GetVerdicts home text number env (statement ∷ rest) (verdict ∷ verdicts) end
+      → GetVerdicts home text (suc number) next rest verdicts end
+      → GetVerdicts home text number env (statement ∷ rest) (verdict ∷ verdicts) end
 
 -- the tokens of each chunk
 abbrev pub statements_of : List Token → List Chunk → List (List Token)

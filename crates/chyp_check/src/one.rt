@@ -42,7 +42,8 @@ fn judge_sentence(alloc: Global, inputs: &Inputs<'_>, ast: &Ast) -> Result<Outco
     requires lent { IsLent inputs.now.chunk }
     requires sentence { IsSentence inputs.now.chunk.tokens.now (statement_of ast.now) }
     ensures judged { IfOk result (λ outcome. IsJudged (site_of inputs.now.«module».now inputs.now.chunk inputs.now.env.now) outcome.verdict) }
-    ensures outcome { IfOk result (λ outcome. IsOutcome (site_of inputs.now.«module».now inputs.now.chunk inputs.now.env.now) outcome.body outcome.verdict) }
+    ensures outcome { IfOk result (λ outcome. IsOutcome
+        (site_of inputs.now.«module».now inputs.now.chunk inputs.now.env.now) outcome.body outcome.verdict) }
     ensures typed { IfOk result (λ outcome. IfSome outcome.body (λ body. AreTypedAlike body.terms)) }
 {
     let body = match elaborate(alloc, inputs.module, ast, &inputs.chunk, inputs.env) {
@@ -62,7 +63,8 @@ fn judge_sentence(alloc: Global, inputs: &Inputs<'_>, ast: &Ast) -> Result<Outco
 pub(crate) fn judge_statement(alloc: Global, inputs: &Inputs<'_>) -> Result<Outcome, NoMemory>
     requires { IsLent inputs.now.chunk }
     ensures judged { IfOk result (λ outcome. IsJudged (site_of inputs.now.«module».now inputs.now.chunk inputs.now.env.now) outcome.verdict) }
-    ensures outcome { IfOk result (λ outcome. IsOutcome (site_of inputs.now.«module».now inputs.now.chunk inputs.now.env.now) outcome.body outcome.verdict) }
+    ensures outcome { IfOk result (λ outcome. IsOutcome
+        (site_of inputs.now.«module».now inputs.now.chunk inputs.now.env.now) outcome.body outcome.verdict) }
     ensures typed { IfOk result (λ outcome. IfSome outcome.body (λ body. AreTypedAlike body.terms)) }
 {
     match parse(alloc, inputs.chunk.tokens) {

@@ -8,11 +8,13 @@ use Rattle.chyp_syntax.specs.declared.term.TermAst.{TermAst}
 use Rattle.chyp_syntax.specs.declared.term.TermAst.TheVariants.{Chain, Beside}
 use Rattle.chyp_syntax.specs.Term.{terms_of, tree_of}
 use Rattle.chyp_syntax.proofs.Trees.{tree_of-Chain, tree_of-Beside}
-use Rattle.chyp_env.specs.Expansion.{halved_by, halved, expansion_in, expansions_in}
+use Rattle.chyp_env.specs.Expansion.{expansion_in, expansions_in}
+use Rattle.chyp_term.specs.Derivation.{empty}
+use Rattle.chyp_term.specs.Halving.{halved_by, halved}
 
 -- more than enough is as good as enough
 halved-enough : (m n : ℕ) (join : Morphism → Morphism → Morphism) (parts : List Morphism) → length parts ≤ m → length parts ≤ n
-    → halved_by m join parts ≡ halved_by n join parts
+    → halved_by empty m join parts ≡ halved_by empty n join parts
 halved-enough m n join [] h k = refl
 halved-enough m n join (a ∷ []) h k = refl
 halved-enough zero n join (a ∷ b ∷ parts) h k = absurd (omega arith)

@@ -11,7 +11,8 @@ use Rattle.chyp_term.specs.Derivation.{empty}
 use Rattle.chyp_term.specs.Morphism.{Morphism, then, beside as beside_terms, dom, cod, IsTyped}
 use Rattle.chyp_syntax.specs.declared.term.TermAst.{TermAst}
 use Rattle.chyp_syntax.specs.Term.{TermTrees, no_terms, term, chain, beside, terms_of, tree_of}
-use Rattle.chyp_env.specs.Expansion.{expansion_in, expansions_in, halved}
+use Rattle.chyp_env.specs.Expansion.{expansion_in, expansions_in}
+use Rattle.chyp_term.specs.Halving.{halved}
 use Rattle.chyp_env.specs.Shape.{IsShape}
 use Rattle.chyp_env.specs.Typing.{Test, meets, Holds, AllHold, FailsFirst, tests_of, tests_behind, tests_of_all}
 use Rattle.chyp_env.proofs.Failing.{Reaches, reaches-start, reaches-more, reaches-end, reaches-fails, fails-front, fails-here, fails-behind}
@@ -168,7 +169,7 @@ chain_linked meaning [] semis h = λ k within. absurd (omega arith)
 chain_linked meaning (p ∷ parts) semis h =
     subst AreLinked (expansions-parts meaning (p ∷ parts))
     (behind-linked meaning (part_in meaning p) (terms_of (map tree_of parts)) semis
-        (hold-behind (tests_of meaning (tree_of p)) (tests_behind meaning (part_in meaning p) (terms_of (map tree_of parts)) semis) h))
+    (hold-behind (tests_of meaning (tree_of p)) (tests_behind meaning (part_in meaning p) (terms_of (map tree_of parts)) semis) h))
 
 -- ---- the types of rows
 

@@ -9,7 +9,8 @@ use Rattle.chyp_base.specs.Sort.{plain}
 use Rattle.chyp_term.specs.Derivation.{empty}
 use Rattle.chyp_term.specs.Morphism.{Morphism, then, beside, dom, cod, IsTyped}
 use Rattle.chyp_term.specs.Perm.{IsPermutation, permuted}
-use Rattle.chyp_env.specs.Expansion.{halved_by, halved, plain_wires, plain_permutation}
+use Rattle.chyp_env.specs.Expansion.{plain_wires, plain_permutation}
+use Rattle.chyp_term.specs.Halving.{halved_by, halved}
 
 -- ---- permutations of plain wires
 
@@ -65,7 +66,7 @@ flat_map-halves f (x ∷ xs) ys = ap (λ zs. f x ++ zs) (flat_map-halves f xs ys
 
 -- what is the concatenation at a tensor of two is the concatenation at a row
 halved-beside : (f : Morphism → List Sort) → f empty ≡ [] → ((s t : Morphism) → f (beside s t) ≡ f s ++ f t)
-    → (most : ℕ) (ms : List Morphism) → length ms ≤ most → f (halved_by most beside ms) ≡ flat_map f ms
+    → (most : ℕ) (ms : List Morphism) → length ms ≤ most → f (halved_by empty most beside ms) ≡ flat_map f ms
 halved-beside f none both most [] h = none
 halved-beside f none both most (a ∷ []) h = sym (append-nil (f a))
 halved-beside f none both zero (a ∷ b ∷ ms) h = absurd (omega arith)
@@ -74,7 +75,7 @@ halved-beside f none both (suc most) (a ∷ b ∷ ms) h =
     let half : ℕ = length all / 2 in
     let front = length-take half all in
     let rest = length-drop half all in
-    both (halved_by most beside (take half all)) (halved_by most beside (drop half all))
+    both (halved_by empty most beside (take half all)) (halved_by empty most beside (drop half all))
     ∙ ap₂ (λ (xs ys : List Sort). xs ++ ys) (halved-beside f none both most (take half all) (omega arith)) (halved-beside f none both most (drop half all) (omega arith))
     ∙ sym (flat_map-halves f (take half all) (drop half all)) ∙ ap (flat_map f) (take-append-drop half all)
 
@@ -84,7 +85,7 @@ dom-beside ms = halved-beside dom refl (λ s t. refl) (length ms) ms (omega arit
 pub cod-beside : (ms : List Morphism) → cod (halved beside ms) ≡ flat_map cod ms
 cod-beside ms = halved-beside cod refl (λ s t. refl) (length ms) ms (omega arith)
 
-typed-beside-by : (most : ℕ) (ms : List Morphism) → length ms ≤ most → All IsTyped ms → IsTyped (halved_by most beside ms)
+typed-beside-by : (most : ℕ) (ms : List Morphism) → length ms ≤ most → All IsTyped ms → IsTyped (halved_by empty most beside ms)
 typed-beside-by most [] h typed = no_place
 typed-beside-by most (a ∷ []) h typed = All-head IsTyped a [] typed
 typed-beside-by zero (a ∷ b ∷ ms) h typed = absurd (omega arith)
@@ -104,7 +105,7 @@ typed-beside ms typed = typed-beside-by (length ms) ms (omega arith) typed
 abbrev pub AreLinked : List Morphism → Type 0
 AreLinked ms = (k : ℕ) → suc k < length ms → cod (get_or ms k empty) ≡ dom (get_or ms (suc k) empty)
 
-dom-then-by : (most : ℕ) (ms : List Morphism) → length ms ≤ most → dom (halved_by most then ms) ≡ dom (get_or ms 0 empty)
+dom-then-by : (most : ℕ) (ms : List Morphism) → length ms ≤ most → dom (halved_by empty most then ms) ≡ dom (get_or ms 0 empty)
 dom-then-by most [] h = refl
 dom-then-by most (a ∷ []) h = refl
 dom-then-by zero (a ∷ b ∷ ms) h = absurd (omega arith)
@@ -114,7 +115,7 @@ dom-then-by (suc most) (a ∷ b ∷ ms) h =
     let front = length-take half all in
     dom-then-by most (take half all) (omega arith) ∙ ap dom (get_or-take half all 0 empty (omega arith))
 
-cod-then-by : (most : ℕ) (ms : List Morphism) → length ms ≤ most → cod (halved_by most then ms) ≡ cod (get_or ms (length ms - 1) empty)
+cod-then-by : (most : ℕ) (ms : List Morphism) → length ms ≤ most → cod (halved_by empty most then ms) ≡ cod (get_or ms (length ms - 1) empty)
 cod-then-by most [] h = refl
 cod-then-by most (a ∷ []) h = refl
 cod-then-by zero (a ∷ b ∷ ms) h = absurd (omega arith)
@@ -131,7 +132,7 @@ dom-then ms = dom-then-by (length ms) ms (omega arith)
 pub cod-then : (ms : List Morphism) → cod (halved then ms) ≡ cod (get_or ms (length ms - 1) empty)
 cod-then ms = cod-then-by (length ms) ms (omega arith)
 
-typed-then-by : (most : ℕ) (ms : List Morphism) → length ms ≤ most → All IsTyped ms → AreLinked ms → IsTyped (halved_by most then ms)
+typed-then-by : (most : ℕ) (ms : List Morphism) → length ms ≤ most → All IsTyped ms → AreLinked ms → IsTyped (halved_by empty most then ms)
 typed-then-by most [] h typed linked = no_place
 typed-then-by most (a ∷ []) h typed linked = All-head IsTyped a [] typed
 typed-then-by zero (a ∷ b ∷ ms) h typed linked = absurd (omega arith)
@@ -146,7 +147,7 @@ typed-then-by (suc most) (a ∷ b ∷ ms) h typed linked =
     ∙ ap (λ n. dom (get_or all n empty)) (let e : suc (half + k) ≡ half + suc k = omega arith in e) ∙ sym (ap dom (get_or-drop half all (suc k) empty)) in
     let last : length (take half all) - 1 ≡ half - 1 = omega arith in
     let zeroth : half + 0 ≡ half = omega arith in
-    let meet : cod (halved_by most then (take half all)) ≡ dom (halved_by most then (drop half all)) =
+    let meet : cod (halved_by empty most then (take half all)) ≡ dom (halved_by empty most then (drop half all)) =
     cod-then-by most (take half all) (omega arith) ∙ ap (λ k. cod (get_or (take half all) k empty)) last ∙ ap cod (get_or-take half all (half - 1) empty (omega arith))
     ∙ linked (half - 1) (omega arith) ∙ ap (λ k. dom (get_or all k empty)) (before ∙ sym zeroth) ∙ sym (ap dom (get_or-drop half all 0 empty))
     ∙ sym (dom-then-by most (drop half all) (omega arith)) in

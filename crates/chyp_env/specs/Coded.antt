@@ -96,7 +96,8 @@ abbrev pub sense_code : Coded Sense
 sense_code =
     let sorts : Coded (List Sort) = coded_list sort.the_row.coded in
     let generators : Coded (List ℕ × (List Sort × List Sort)) = coded× (coded_list coded_ℕ) (coded× sorts sorts) in
-    code_by Parts (coded⊎ generators (coded⊎ morphism_code (coded⊎ (coded× morphism_code morphism_code) coded_bool))) parts_of sense_with sense_with-parts_of
+    code_by Parts (coded⊎ generators (coded⊎ morphism_code (coded⊎ (coded× morphism_code morphism_code) coded_bool))) parts_of sense_with
+    sense_with-parts_of
 
 -- bindings are stored as their fields
 abbrev pub binding_code : Coded Binding

@@ -1,12 +1,12 @@
 -- The term that a tree stands for, which has no limits.
-use Rattle.std.specs.Prelude.{ℕ, zero, suc, ◌/◌, List, [], ◌∷◌, length, take, drop, replicate, None, Some}
+use Rattle.std.specs.Prelude.{ℕ, List, [], ◌∷◌, length, replicate, None, Some}
 use Rattle.chyp_base.specs.declared.sort.Sort.{Sort}
 use Rattle.chyp_base.specs.Sort.{plain}
 use Rattle.chyp_syntax.specs.Term.{TermTree, TermTrees, named, wire, empty as no_wire, swap, chain, beside as tensor, no_terms, term}
 use Rattle.chyp_env.specs.declared.expansion.Join.{Join}
 use Rattle.chyp_env.specs.declared.expansion.Join.TheVariants.{Then, Beside}
 use Rattle.chyp_term.specs.Morphism.{Morphism, permutation, then, beside}
-use Rattle.chyp_term.specs.Derivation.{empty}
+use Rattle.chyp_term.specs.Halving.{halved}
 
 -- n plain wires
 abbrev pub plain_wires : ℕ → List Sort
@@ -15,19 +15,6 @@ plain_wires n = replicate n plain
 -- the places are those of plain wires
 abbrev pub plain_permutation : List ℕ → Morphism
 plain_permutation places = permutation (plain_wires (length places)) places
-
--- Parts in a row: the first half of them, rounded down, and then the rest, where both halves are made in the same way.
--- `most` is at least the number of parts.
-abbrev pub halved_by : ℕ → (Morphism → Morphism → Morphism) → List Morphism → Morphism
-halved_by most join [] = empty
-halved_by most join (part ∷ []) = part
-halved_by zero join (part ∷ next ∷ parts) = empty
-halved_by (suc most) join (part ∷ next ∷ parts) =
-    let all = part ∷ next ∷ parts in
-    join (halved_by most join (take (length all / 2) all)) (halved_by most join (drop (length all / 2) all))
-
-abbrev pub halved : (Morphism → Morphism → Morphism) → List Morphism → Morphism
-halved join parts = halved_by (length parts) join parts
 
 -- the ways to join two terms
 abbrev pub join_of : Join → Morphism → Morphism → Morphism

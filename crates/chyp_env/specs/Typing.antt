@@ -39,7 +39,8 @@ abbrev mutual
   pub tests_behind : (ℕ → Morphism) → Morphism → TermTrees → List ℕ → List Test
   tests_behind meaning before no_terms semis = []
   tests_behind meaning before (term next rest) semis =
-      tests_of meaning next ++ (slice_index semis 0, meets before (expansion_in meaning next)) ∷ tests_behind meaning (expansion_in meaning next) rest (drop 1 semis)
+      tests_of meaning next ++ (slice_index semis 0, meets before (expansion_in meaning next))
+      ∷ tests_behind meaning (expansion_in meaning next) rest (drop 1 semis)
 
   -- the tests of the parts of a tensor
   pub tests_of_all : (ℕ → Morphism) → TermTrees → List Test

@@ -37,7 +37,8 @@ impl Model for Env {
 
     ghost view = { λ e. map (λ pair. entry_of pair.1) e.entries.entries };
 
-    ghost invariant = { λ e. All (λ pair. IsKept pair.0.items pair.1) e.entries.entries × HasDistinctNames (map (λ pair. entry_of pair.1) e.entries.entries) × IfSome e.plain ArePlain };
+    ghost invariant = { λ e. All (λ pair. IsKept pair.0.items pair.1) e.entries.entries
+        × HasDistinctNames (map (λ pair. entry_of pair.1) e.entries.entries) × IfSome e.plain ArePlain };
 }
 
 impl Env {

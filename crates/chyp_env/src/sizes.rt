@@ -5,7 +5,8 @@ ghost use Rattle.chyp_term.specs.Morphism.{Morphism, generator as a_generator, p
 ghost use Rattle.chyp_syntax.specs.Term.{tree_of};
 ghost use Rattle.chyp_env.specs.ChunkView.{IsLent, site_of};
 ghost use Rattle.chyp_env.specs.Entry.{sense_of};
-ghost use Rattle.chyp_env.specs.Expansion.{expansion_in, halved, join_of};
+ghost use Rattle.chyp_env.specs.Expansion.{expansion_in, join_of};
+ghost use Rattle.chyp_term.specs.Halving.{halved};
 ghost use Rattle.chyp_env.specs.Sizes.{AreSizes};
 ghost use Rattle.chyp_env.specs.Site.{meaning_at, term_of};
 

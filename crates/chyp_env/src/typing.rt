@@ -93,7 +93,8 @@ fn shape_of_chain(
 ) -> Result<Shape, TypeFault>
     requires lent { IsLent chunk.now }
     requires plain { ArePlain plain.now }
-    ensures holds { IsOk result → AllHold (tests_of (meaning_at (site_of [] chunk.now env.now)) (chain (terms_of (map tree_of parts.now)) semis.now)) }
+    ensures holds { IsOk result → AllHold
+        (tests_of (meaning_at (site_of [] chunk.now env.now)) (chain (terms_of (map tree_of parts.now)) semis.now)) }
     ensures shape { IfOk result (λ shape.
         IsShape shape (expansion_in (meaning_at (site_of [] chunk.now env.now)) (chain (terms_of (map tree_of parts.now)) semis.now))) }
     ensures fails { (token : ℕ) → result ≡ Err (TypeFault.Fails token) →
@@ -122,7 +123,8 @@ fn shape_of_tensor(
 ) -> Result<Shape, TypeFault>
     requires lent { IsLent chunk.now }
     requires plain { ArePlain plain.now }
-    ensures holds { IsOk result → AllHold (tests_of (meaning_at (site_of [] chunk.now env.now)) (tensor (terms_of (map tree_of parts.now)))) }
+    ensures holds { IsOk result → AllHold
+        (tests_of (meaning_at (site_of [] chunk.now env.now)) (tensor (terms_of (map tree_of parts.now)))) }
     ensures shape { IfOk result (λ shape.
         IsShape shape (expansion_in (meaning_at (site_of [] chunk.now env.now)) (tensor (terms_of (map tree_of parts.now))))) }
     ensures fails { (token : ℕ) → result ≡ Err (TypeFault.Fails token) →

@@ -7,7 +7,9 @@ ghost use Rattle.chyp_term.specs.Term.{morphism_of};
 
 use chyp_base::{Name, NoMemory, Sort, Sorts};
 use chyp_graph::Graph;
-use chyp_term::{MOST_DEPTH, MOST_GENERATORS, MOST_SIZE, Perm, Places, Term, depth, gens, shape_of, size};
+use chyp_term::{
+    MOST_DEPTH, MOST_GENERATORS, MOST_SIZE, Perm, Places, Term, depth, gens, shape_of, size,
+};
 use std::alloc::Global;
 use std::rc::Rc;
 use std::test::Fail;

@@ -16,7 +16,8 @@ use Rattle.chyp_syntax.specs.Term.{TermTree, TermTrees, named, wire, empty as no
 use Rattle.chyp_term.specs.Derivation.{empty}
 use Rattle.chyp_term.specs.Morphism.{Morphism, generator as a_generator, permutation, then, beside}
 use Rattle.chyp_env.specs.Environment.{Sense, generator, abbreviation, law, unproved, broken, Binding}
-use Rattle.chyp_env.specs.Expansion.{expansion_in, expansions_in, halved_by}
+use Rattle.chyp_env.specs.Expansion.{expansion_in, expansions_in}
+use Rattle.chyp_term.specs.Halving.{halved_by}
 use Rattle.chyp_env.specs.Site.{Imported, there, Site, binding_at, meaning_at, term_of}
 use Rattle.chyp_names.specs.Binding.{Binds, nothing, again, anew, imports, StandsFor, a_declared_generator, a_term, a_rule, a_proved_rewrite, an_unproved_rewrite, a_broken_statement}
 use Rattle.chyp_names.specs.Elaboration.{expansion_at, fault_of_module, import_fault, prefix_at, terms_of}
@@ -75,7 +76,7 @@ meaning-bound s bound token = go (binding_at s token) refl
     go (Some b) e = let has = binding-found s.env (text_at s.text s.tokens token) b e in sense-term s.env b.sense (All-contains (λ (x : Binding). HasBoundSense s.env x.sense) s.env b bound has.0)
 
 halved-bound : (P : Morphism → Type 0) (join : Morphism → Morphism → Morphism) → P empty → ((s t : Morphism) → P s → P t → P (join s t)) → (most : ℕ) (parts : List Morphism) → All P parts
-    → P (halved_by most join parts)
+    → P (halved_by empty most join parts)
 halved-bound P join none both zero [] all = none
 halved-bound P join none both zero (p ∷ []) all = all 0 p (omega arith)
 halved-bound P join none both zero (p ∷ q ∷ rest) all = none
@@ -83,7 +84,7 @@ halved-bound P join none both (suc most) [] all = none
 halved-bound P join none both (suc most) (p ∷ []) all = all 0 p (omega arith)
 halved-bound P join none both (suc most) (p ∷ q ∷ rest) all =
     let parts = p ∷ q ∷ rest in
-    both (halved_by most join (take (length parts / 2) parts)) (halved_by most join (drop (length parts / 2) parts))
+    both (halved_by empty most join (take (length parts / 2) parts)) (halved_by empty most join (drop (length parts / 2) parts))
     (halved-bound P join none both most (take (length parts / 2) parts) (All-take P (length parts / 2) parts all))
     (halved-bound P join none both most (drop (length parts / 2) parts) (All-drop P (length parts / 2) parts all))
 

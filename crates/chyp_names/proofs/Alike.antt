@@ -85,7 +85,7 @@ tests_of_steps-append meaning first (x ∷ xs) ys = go x.goal refl (tests_of_ste
 module _ (site : Site) (first : Morphism) where
   split : (steps others : List StepAst)
       → tests_of_steps (meaning_at site) first (map step_of (steps ++ others)) ≡ tests_of_steps (meaning_at site) first (map step_of steps) ++ tests_of_steps (meaning_at site) first
-          (map step_of others)
+      (map step_of others)
   split steps others = ap (tests_of_steps (meaning_at site) first) (map-append step_of steps others) ∙ tests_of_steps-append (meaning_at site) first (map step_of steps) (map step_of others)
 
   both_agree : (steps others : List StepAst) → StepsAgree site first steps → StepsAgree site first others → StepsAgree site first (steps ++ others)
@@ -135,12 +135,12 @@ module _ (site : Site) (ast : Ast) (name : ℕ) (left : TermAst) (equals : ℕ) 
       let other = h.1 in
       subst (λ a. AreTypedAlike (terms_of site (statement_of a))) (sym is)
       (alike (expansion_at site (tree_of left)) (expansion_at site (tree_of right) ∷ []) typed
-          (All-cons (IsEquation (expansion_at site (tree_of left))) (expansion_at site (tree_of right)) [] other (All-nil (IsEquation (expansion_at site (tree_of left))))))
+      (All-cons (IsEquation (expansion_at site (tree_of left))) (expansion_at site (tree_of right)) [] other (All-nil (IsEquation (expansion_at site (tree_of left))))))
 
   pub rule_fails_left : (token : ℕ) → FailsFirst (tests_of (meaning_at site) (tree_of left)) token → FailsFirst (tests_at site (statement_of ast)) token
   rule_fails_left token fails =
       subst (λ ts. FailsFirst ts token) rule_tests
-          (fails-front (tests_of (meaning_at site) (tree_of left)) (tests_of_other (meaning_at site) (expansion_at site (tree_of left)) equals (tree_of right)) token fails)
+      (fails-front (tests_of (meaning_at site) (tree_of left)) (tests_of_other (meaning_at site) (expansion_at site (tree_of left)) equals (tree_of right)) token fails)
 
   pub rule_fails_right : (token : ℕ) → AllHold (tests_of (meaning_at site) (tree_of left)) → Disagrees site (expansion_at site (tree_of left)) equals (tree_of right) token
       → FailsFirst (tests_at site (statement_of ast)) token

@@ -111,4 +111,4 @@ pub rewrite_decided : (site : Site) (ast : Ast) (name : ℕ) (first : TermAst) (
     → IsSum 0 (expansion_at site (tree_of first) ∷ goal_terms site items) sum → IsDecided site ast (is_some sum)
 rewrite_decided site ast name first steps items sum e same is =
     subst (λ a. IsDecided site a (is_some sum)) (sym e)
-        (decided site (RewriteDecl name first steps) sum tt (subst (λ xs. IsSum 0 (expansion_at site (tree_of first) ∷ goal_terms site xs) sum) same is))
+    (decided site (RewriteDecl name first steps) sum tt (subst (λ xs. IsSum 0 (expansion_at site (tree_of first) ∷ goal_terms site xs) sum) same is))

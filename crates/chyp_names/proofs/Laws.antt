@@ -76,7 +76,7 @@ laws_there : (site : Site) (names : List ℕ) → filter_map (fault_of site) (ma
 laws_there site [] f u = All-nil (IsLawAt site)
 laws_there site (name ∷ names) f u =
     All-cons (IsLawAt site) name names
-        (law_there site name (nothing_first (fault_of site) (in_reason name) (map in_reason names) f) (nothing_first (unproved_use site) (in_reason name) (map in_reason names) u))
+    (law_there site name (nothing_first (fault_of site) (in_reason name) (map in_reason names) f) (nothing_first (unproved_use site) (in_reason name) (map in_reason names) u))
     (laws_there site names (nothing_behind (fault_of site) (in_reason name) (map in_reason names) f) (nothing_behind (unproved_use site) (in_reason name) (map in_reason names) u))
 
 laws_in_steps : (site : Site) (steps : List StepAst) → filter_map (fault_of site) (flat_map uses_in_step (map step_of steps)) ≡ []

@@ -36,7 +36,7 @@ mutual
       let behind = hold-behind (tests_of meaning first) (tests_behind meaning (expansion_in meaning first) rest semis) h in
       typed-then (expansion_in meaning first ∷ expansions_in meaning rest)
       (All-cons IsTyped (expansion_in meaning first) (expansions_in meaning rest) (typed-of-tests meaning typed first front)
-          (typed-behind meaning typed (expansion_in meaning first) rest semis behind))
+      (typed-behind meaning typed (expansion_in meaning first) rest semis behind))
       (behind-linked meaning (expansion_in meaning first) rest semis behind)
   typed-of-tests meaning typed (beside parts) h = typed-beside (expansions_in meaning parts) (typed-of-all meaning typed parts h)
 

@@ -21,7 +21,8 @@ Disagrees site first equals tree token = FailsFirst (tests_of_other (meaning_at 
 
 -- the same of the goals of steps
 abbrev pub StepsAgree : Site → Morphism → List StepAst → Type 0
-StepsAgree site first steps = AllHold (tests_of_steps (meaning_at site) first (map step_of steps)) × All (IsEquation first) (goal_terms site steps)
+StepsAgree site first steps = AllHold (tests_of_steps (meaning_at site) first (map step_of steps))
+    × All (IsEquation first) (goal_terms site steps)
 
 abbrev pub StepsDisagree : Site → Morphism → List StepAst → ℕ → Type 0
 StepsDisagree site first steps token = FailsFirst (tests_of_steps (meaning_at site) first (map step_of steps)) token

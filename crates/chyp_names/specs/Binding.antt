@@ -32,7 +32,8 @@ pub data StandsFor (site : Site) : Verdict → Sense → Type 0 where
       → terms_of site (definition name tree) ≡ term ∷ [] → StandsFor site Accepted (abbreviation term)
   a_rule : {name equals : ℕ} {left right : TermTree} {first last : Morphism} → IsSentence site.tokens (rule name left equals right)
       → terms_of site (rule name left equals right) ≡ first ∷ last ∷ [] → StandsFor site Accepted (law first last)
-  a_proved_rewrite : {name : ℕ} {tree : TermTree} {steps : List StepTree} {first last : Morphism} → IsSentence site.tokens (rewrite name tree steps)
+  a_proved_rewrite : {name : ℕ} {tree : TermTree} {steps : List StepTree} {first last : Morphism}
+      → IsSentence site.tokens (rewrite name tree steps)
       → slice_get (terms_of site (rewrite name tree steps)) 0 ≡ Some first
       → slice_get (terms_of site (rewrite name tree steps)) (length (terms_of site (rewrite name tree steps)) - 1) ≡ Some last
       → StandsFor site Proved (law first last)
@@ -48,10 +49,13 @@ TakesIn _ _ = ⊥
 -- none or the name is bound already. An accepted import binds each name of its module that isn't bound already.
 pub data Binds (site : Site) (number : ℕ) (verdict : Verdict) : List Binding → Type 0 where
   nothing : declared_name site.text site.tokens ≡ None → ¬ TakesIn site.imported verdict → Binds site number verdict site.env
-  again : {name : List ℕ} → declared_name site.text site.tokens ≡ Some name → IsTrue (is_bound site.env name) → Binds site number verdict site.env
+  again : {name : List ℕ} → declared_name site.text site.tokens ≡ Some name → IsTrue (is_bound site.env name)
+      → Binds site number verdict site.env
   anew : {name : List ℕ} {sense : Sense} → declared_name site.text site.tokens ≡ Some name → is_bound site.env name ≡ false
-      → StandsFor site verdict sense → Binds site number verdict (site.env ++ record { name = name; origin = (site.home, number); sense = sense } ∷ [])
-  imports : {word : ℕ} {as_word : Option ℕ} {env : List Binding} → verdict ≡ Accepted → IsSentence site.tokens (inclusion word as_word) → site.imported ≡ there env
+      → StandsFor site verdict sense
+      → Binds site number verdict (site.env ++ record { name = name; origin = (site.home, number); sense = sense } ∷ [])
+  imports : {word : ℕ} {as_word : Option ℕ} {env : List Binding} → verdict ≡ Accepted → IsSentence site.tokens (inclusion word as_word)
+      → site.imported ≡ there env
       → Binds site number verdict (site.env ++ new_in site.env (all_passed_on (prefix_at site as_word) env))
 
 -- a body is that of the statement, which is a sentence that nothing refuses

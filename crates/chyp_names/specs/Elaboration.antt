@@ -34,7 +34,8 @@ expansion_at site tree = expansion_in (meaning_at site) tree
 
 -- the terms of a statement, in the order of the text; that of a `gen` is the generator
 abbrev pub terms_of : Site → StatementTree → List Morphism
-terms_of site (generator name dom cod) = a_generator (generator_name site.home (text_at site.text site.tokens name)) (plain_wires dom) (plain_wires cod) ∷ []
+terms_of site (generator name dom cod) =
+    a_generator (generator_name site.home (text_at site.text site.tokens name)) (plain_wires dom) (plain_wires cod) ∷ []
 terms_of site (definition name tree) = expansion_at site tree ∷ []
 terms_of site (rule name left equals right) = expansion_at site left ∷ expansion_at site right ∷ []
 terms_of site (rewrite name first steps) = expansion_at site first ∷ filter_map (λ step. option_map (expansion_at site) step.goal) steps
@@ -48,7 +49,8 @@ equation_of_sense _ = (empty, empty)
 
 -- the equation that a name behind a `by` stands for, with its sides exchanged behind a `-`
 abbrev pub equation_at : Site → SignedAst → Morphism × Morphism
-equation_at site signed = directed signed.minus (option_map_or (λ binding. equation_of_sense binding.sense) (binding_at site signed.name) (empty, empty))
+equation_at site signed = directed signed.minus
+    (option_map_or (λ binding. equation_of_sense binding.sense) (binding_at site signed.name) (empty, empty))
   where
     directed : Bool → Morphism × Morphism → Morphism × Morphism
     directed minus equation = if minus then (equation.1, equation.0) else equation
@@ -110,12 +112,16 @@ pub record Passes (site : Site) (tree : StatementTree) : Type 0 where
 pub data IsRefused (site : Site) (tree : StatementTree) : Verdict → Type 0 where
   declared : IsTrue (is_declared site) → IsRefused site tree (Declared 1)
   at_import : {verdict : Verdict} → is_declared site ≡ false → import_fault site tree ≡ Some verdict → IsRefused site tree verdict
-  at_name : {verdict : Verdict} → is_declared site ≡ false → import_fault site tree ≡ None → first_fault site tree ≡ Some verdict → IsRefused site tree verdict
-  too_big : is_declared site ≡ false → import_fault site tree ≡ None → first_fault site tree ≡ None → ¬ AreWithinLimits tree (terms_of site tree)
+  at_name : {verdict : Verdict} → is_declared site ≡ false → import_fault site tree ≡ None → first_fault site tree ≡ Some verdict
+      → IsRefused site tree verdict
+  too_big : is_declared site ≡ false → import_fault site tree ≡ None → first_fault site tree ≡ None
+      → ¬ AreWithinLimits tree (terms_of site tree)
       → IsRefused site tree TooBig
-  mistyped : {token : ℕ} → is_declared site ≡ false → import_fault site tree ≡ None → first_fault site tree ≡ None → AreWithinLimits tree (terms_of site tree)
+  mistyped : {token : ℕ} → is_declared site ≡ false → import_fault site tree ≡ None → first_fault site tree ≡ None
+      → AreWithinLimits tree (terms_of site tree)
       → FailsFirst (tests_at site tree) token → IsRefused site tree (Mistyped token)
-  unproved : {token : ℕ} → is_declared site ≡ false → import_fault site tree ≡ None → first_fault site tree ≡ None → AreWithinLimits tree (terms_of site tree)
+  unproved : {token : ℕ} → is_declared site ≡ false → import_fault site tree ≡ None → first_fault site tree ≡ None
+      → AreWithinLimits tree (terms_of site tree)
       → AllHold (tests_at site tree) → first_unproved site tree ≡ Some token → IsRefused site tree (Unproved token)
 
 -- a body holds the terms and the steps of the statement, and whether a step is a hole

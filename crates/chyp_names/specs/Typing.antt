@@ -25,7 +25,8 @@ tests_of_steps meaning first (step ∷ steps) = tests_of_goal step.goal ++ tests
 abbrev pub tests_of_statement : (ℕ → Morphism) → StatementTree → List Test
 tests_of_statement meaning (generator name dom cod) = []
 tests_of_statement meaning (definition name tree) = tests_of meaning tree
-tests_of_statement meaning (rule name left equals right) = tests_of meaning left ++ tests_of_other meaning (expansion_in meaning left) equals right
+tests_of_statement meaning (rule name left equals right) =
+    tests_of meaning left ++ tests_of_other meaning (expansion_in meaning left) equals right
 tests_of_statement meaning (rewrite name first steps) = tests_of meaning first ++ tests_of_steps meaning (expansion_in meaning first) steps
 tests_of_statement meaning (inclusion imported prefix) = []
 tests_of_statement meaning (showing name) = []

@@ -67,8 +67,10 @@ fn ends(alloc: Global, terms: &[KnownTerm]) -> Result<Vec<KnownTerm>, NoMemory>
 
 // The terms, shared, that say what a statement stands for, none where it is refused.
 fn needed(alloc: Global, terms: &[KnownTerm], verdict: &Verdict) -> Result<Vec<KnownTerm>, NoMemory>
-    ensures has { IfOk result (λ needed. (keyword : Option TokenKind) → HasTermsFor keyword terms.now verdict.now → HasTermsFor keyword needed.items verdict.now) }
-    ensures same { IfOk result (λ needed. (keyword : Option TokenKind) → sense_for keyword needed.items verdict.now ≡ sense_for keyword terms.now verdict.now) }
+    ensures has { IfOk result (λ needed. (keyword : Option TokenKind) → HasTermsFor keyword terms.now verdict.now
+        → HasTermsFor keyword needed.items verdict.now) }
+    ensures same { IfOk result (λ needed. (keyword : Option TokenKind)
+        → sense_for keyword needed.items verdict.now ≡ sense_for keyword terms.now verdict.now) }
 {
     match verdict {
         Verdict::Accepted | Verdict::Proved => ends(alloc, terms),
@@ -169,7 +171,14 @@ fn unbound<'a>(text: &'a [u8], tokens: &[Token], env: &Env) -> Option<&'a [u8]>
     requires { AreSpans (length text.now) tokens.now }
     ensures name { IfSome result (λ name. declared_name text.entry.now tokens.now ≡ Some name.now) }
     ensures free { IfSome result (λ name. is_bound env.now name.now ≡ false) }
-    ensures none { IfNone result ((home : List ℕ) (number : ℕ) (verdict : Verdict) → Binds (record { home = home; text = text.entry.now; env = env.now; tokens = tokens.now; imported = nothing' }) number verdict env.now) }
+    ensures none { IfNone result ((home : List ℕ) (number : ℕ) (verdict : Verdict)
+        → Binds (record {
+          home = home;
+          text = text.entry.now;
+          env = env.now;
+          tokens = tokens.now;
+          imported = nothing';
+        }) number verdict env.now) }
 {
     let name = declared_name(text, tokens)?;
     match env.lookup(name) {
@@ -189,7 +198,8 @@ fn bind_name(
     requires free { is_bound env.old name.now ≡ false }
     requires spelled { IsUtf8 name.now }
     requires sound { IsSoundSense (sense_of meaning) }
-    ensures ok { OnOk result (env.new ≡ env.old ++ record { name = name.now; origin = («module».now, index); sense = sense_of meaning } ∷ []) }
+    ensures ok { OnOk result (env.new ≡ env.old ++ record { name = name.now; origin = («module».now, index); sense = sense_of meaning }
+        ∷ []) }
     ensures err { OnErr result (env.new ≡ env.old) }
 {
     let name = spelled(env.allocator(), name)?;

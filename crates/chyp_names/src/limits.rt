@@ -72,7 +72,8 @@ fn sum_with_goals(before: u64, steps: &[StepAst], chunk: &ChunkView<'_>, env: &E
 fn sum_of_two(left: &TermAst, right: &TermAst, chunk: &ChunkView<'_>, env: &Env) -> Option<u64>
     requires { IsLent chunk.now }
     ensures { IsSum 0
-        (expansion_at (site_of [] chunk.now env.now) (tree_of left.now) ∷ expansion_at (site_of [] chunk.now env.now) (tree_of right.now) ∷ []) result }
+        (expansion_at (site_of [] chunk.now env.now) (tree_of left.now) ∷ expansion_at (site_of [] chunk.now env.now) (tree_of right.now)
+        ∷ []) result }
 {
     let sum = sum_with(0, left, chunk, env)?;
     sum_with(sum, right, chunk, env)
@@ -96,7 +97,8 @@ fn sum_of_rewrite(
 /// Whether a statement is within the limits. None of its terms is made.
 pub(crate) fn is_small(ast: &Ast, chunk: &ChunkView<'_>, env: &Env) -> bool
     requires { IsLent chunk.now }
-    ensures { (home : List ℕ) → IsTrue result ↔ AreWithinLimits (statement_of ast.now) (terms_of (site_of home chunk.now env.now) (statement_of ast.now)) }
+    ensures { (home : List ℕ) → IsTrue result
+        ↔ AreWithinLimits (statement_of ast.now) (terms_of (site_of home chunk.now env.now) (statement_of ast.now)) }
 {
     match ast {
         Ast::GenDecl { dom, cod, .. } => *dom <= MOST_PORTS && *cod <= MOST_PORTS,

@@ -212,7 +212,8 @@ fn fault_in_rewrite(
     env: &Env,
 ) -> Option<Verdict>
     requires { IsLent chunk.now }
-    ensures { result ≡ first_fault_among (site_of [] chunk.now env.now) (uses_in (tree_of first.now) ++ flat_map uses_in_step (map step_of steps.now)) }
+    ensures { result ≡ first_fault_among (site_of [] chunk.now env.now)
+        (uses_in (tree_of first.now) ++ flat_map uses_in_step (map step_of steps.now)) }
 {
     let fault = fault_in_tree(first, chunk, env);
     if fault.is_some() {

@@ -86,7 +86,8 @@ fn step_list(
 ) -> Result<StepList, NoMemory>
     requires lent { IsLent chunk.now }
     requires laws { All (λ step. RestsOnLaws (site_of [] chunk.now env.now) step.reason) steps.now }
-    ensures { IfOk result (λ list. reasons_of list ≡ map (λ step. reason_at (site_of [] chunk.now env.now) step.reason) (map step_of steps.now)) }
+    ensures { IfOk result (λ list. reasons_of list
+        ≡ map (λ step. reason_at (site_of [] chunk.now env.now) step.reason) (map step_of steps.now)) }
 {
     let mut list = Vec::with_capacity(alloc, steps.len())?;
     for ast in steps {

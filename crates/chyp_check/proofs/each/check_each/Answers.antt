@@ -51,5 +51,8 @@ returns-clause-count g c =
     let all = take_all c.loop-index.index c.args.chunks.now c.loop-index-test.false in
     ap length c.from_vec.ensures
     ∙ verdicts-length c.args.text.now c.args.tokens.now c.args.chunks.now c.loop-index.verdicts.items
-    (record { end = c.loop-index.env; get = subst (λ chunks. GetVerdicts [] c.args.text.now zero [] (statements_of c.args.tokens.now chunks) c.loop-index.verdicts.items c.loop-index.env) all
-        c.loop-index.invariant.get })
+    (record {
+      end = c.loop-index.env;
+      get = subst (λ chunks. GetVerdicts [] c.args.text.now zero [] (statements_of c.args.tokens.now chunks) c.loop-index.verdicts.items c.loop-index.env) all
+          c.loop-index.invariant.get;
+    })

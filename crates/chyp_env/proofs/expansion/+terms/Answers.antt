@@ -7,7 +7,8 @@ use Rattle.chyp_syntax.specs.declared.term.TermAst.{TermAst}
 use Rattle.chyp_syntax.specs.declared.term.TermAst.TheVariants.{Swap}
 use Rattle.chyp_syntax.specs.Term.{tree_of}
 use Rattle.chyp_env.specs.ChunkView.{site_of}
-use Rattle.chyp_env.specs.Expansion.{halved, join_of}
+use Rattle.chyp_env.specs.Expansion.{join_of}
+use Rattle.chyp_term.specs.Halving.{halved}
 use Rattle.chyp_env.specs.Site.{meaning_at}
 use Rattle.chyp_env.proofs.Halves.{expansion-Chain, expansion-Beside, halved-map, part_in, term_is}
 use Rattle.chyp_env.proofs.Nodes.{nodes, nodes_in, nodes-Chain, nodes-Beside, part_nodes, halves_nodes, enough_nodes}

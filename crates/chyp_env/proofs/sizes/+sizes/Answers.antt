@@ -6,7 +6,8 @@ use Rattle.chyp_syntax.specs.declared.term.TermAst.TheVariants.{Swap}
 use Rattle.chyp_syntax.proofs.Trees.{tree_of-Wire, tree_of-Empty, tree_of-Swap}
 use Rattle.chyp_env.specs.declared.expansion.Join.TheVariants.{Then, Beside}
 use Rattle.chyp_env.specs.ChunkView.{site_of}
-use Rattle.chyp_env.specs.Expansion.{expansion_in, halved, join_of, plain_permutation, plain_wires}
+use Rattle.chyp_env.specs.Expansion.{expansion_in, join_of, plain_permutation, plain_wires}
+use Rattle.chyp_term.specs.Halving.{halved}
 use Rattle.chyp_env.specs.Site.{meaning_at}
 use Rattle.chyp_env.proofs.Halves.{expansion-Chain, expansion-Beside, halved-map, part_in}
 use Rattle.chyp_env.proofs.Measures.{sizes_is, empty_measured}

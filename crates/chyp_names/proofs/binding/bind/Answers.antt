@@ -7,8 +7,8 @@ use Rattle.chyp_names.proofs.binding.bind.Goals as goal
 pub meaning-requires : goal.meaning-requires
 meaning-requires c =
     c.in_ok-terms.ensures.has c.keyword.result
-        (has_terms c.args.module.now c.args.chunk.now c.args.env.now (option_copied c.args.body) c.args.verdict.now c.in-Some.name.now c.requires.outcome c.in-Some.ensures.name c.keyword.result
-        c.terms.result.now c.keyword.ensures c.terms.ensures)
+    (has_terms c.args.module.now c.args.chunk.now c.args.env.now (option_copied c.args.body) c.args.verdict.now c.in-Some.name.now c.requires.outcome c.in-Some.ensures.name c.keyword.result
+    c.terms.result.now c.keyword.ensures c.terms.ensures)
 
 pub bind_name-requires-clause-spelled : goal.bind_name-requires-clause-spelled
 bind_name-requires-clause-spelled c = declared_spelled c.args.chunk.now c.in-Some.name.now c.requires.lent c.in-Some.ensures.name
@@ -22,5 +22,5 @@ pub returns-clause-ok : goal.returns-clause-ok
 returns-clause-ok c =
     sense_binds c.args.module.now c.args.chunk.now c.args.env.now (option_copied c.args.body) c.args.verdict.now c.in-Some.name.now c.requires.outcome c.in-Some.ensures.name
     c.args.index (sense_of c.in_ok-meaning.meaning) c.keyword.result c.terms.result.now c.bind_name.new.env c.bind_name.result c.keyword.ensures c.terms.ensures
-        (c.in_ok-meaning.ensures ∙ c.in_ok-terms.ensures.same c.keyword.result)
+    (c.in_ok-meaning.ensures ∙ c.in_ok-terms.ensures.same c.keyword.result)
     c.in-Some.ensures.free c.bind_name.ensures.ok

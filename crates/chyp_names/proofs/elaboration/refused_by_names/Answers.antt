@@ -12,7 +12,7 @@ returns-then-is_declared-clause-some c = λ home. declared (sym c.is_declared.en
 pub returns-then-is_import-clause-some : goal.returns-then-is_import-clause-some
 returns-then-is_import-clause-some c = λ home.
     at_import (sym c.is_declared.ensures ∙ c.if-is_declared.false)
-        (import-not_built (site_of home c.args.chunk.now c.args.env.now) (statement_of c.args.ast.now) refl (sym c.is_import.ensures ∙ c.if-is_import.true))
+    (import-not_built (site_of home c.args.chunk.now c.args.env.now) (statement_of c.args.ast.now) refl (sym c.is_import.ensures ∙ c.if-is_import.true))
 
 pub returns-clause-some : goal.returns-clause-some
 returns-clause-some c = λ home.

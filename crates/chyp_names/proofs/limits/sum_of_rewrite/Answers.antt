@@ -9,5 +9,5 @@ use Rattle.chyp_names.proofs.limits.sum_of_rewrite.Goals as goal
 pub returns : goal.returns
 returns c =
     sum_more 0 c.in_ok-sum.sum (expansion_at (site_of [] c.args.chunk.now c.args.env.now) (tree_of c.args.first.now) ∷ []) (goal_terms (site_of [] c.args.chunk.now c.args.env.now) c.args.steps.now)
-        c.sum_with_goals.result
+    c.sum_with_goals.result
     (subst (IsSum 0 (expansion_at (site_of [] c.args.chunk.now c.args.env.now) (tree_of c.args.first.now) ∷ [])) c.in_ok-sum.was c.sum_with.ensures) c.sum_with_goals.ensures

@@ -15,14 +15,14 @@ returns-then-is_some t c =
       | in-Beside w ↦ uses_of_tensor c.args.tree.now w.in-Beside.parts c.as_slice-part-items.result.now w.in-Beside.is (c.as_slice-part-items.ensures ∙ ap (λ p. p.now) w.parts-is)
     ] in
     stops (fault_of (site_of [] c.args.chunk.now c.args.env.now)) part_uses c.as_slice-part-items.result.now c.loop-part.part-index c.part-item.result
-        (part_uses c.args.tree.now) c.fault_in_tree-fault.result
+    (part_uses c.args.tree.now) c.fault_in_tree-fault.result
     uses c.loop-part-test.true c.loop-part.invariant
-        (c.fault_in_tree-fault.ensures ∙ ap (λ (part : TermAst). first_fault_among (site_of [] c.args.chunk.now c.args.env.now) (part_uses part)) c.part-item.is) c.if-is_some.ensures
+    (c.fault_in_tree-fault.ensures ∙ ap (λ (part : TermAst). first_fault_among (site_of [] c.args.chunk.now c.args.env.now) (part_uses part)) c.part-item.is) c.if-is_some.ensures
 
 pub loop-part-preserved : goal.loop-part-preserved
 loop-part-preserved t c =
     goes_on (fault_of (site_of [] c.args.chunk.now c.args.env.now)) part_uses c.as_slice-part-items.result.now c.loop-part.part-index c.part-item.result c.fault_in_tree-fault.result
-        c.loop-part-test.true c.loop-part.invariant
+    c.loop-part-test.true c.loop-part.invariant
     (c.fault_in_tree-fault.ensures ∙ ap (λ (part : TermAst). first_fault_among (site_of [] c.args.chunk.now c.args.env.now) (part_uses part)) c.part-item.is) c.if-is_some.ensures
 
 pub returns : goal.returns
@@ -32,4 +32,4 @@ returns t c =
       | in-Beside w ↦ uses_of_tensor c.args.tree.now w.in-Beside.parts c.as_slice-part-items.result.now w.in-Beside.is (c.as_slice-part-items.ensures ∙ ap (λ p. p.now) w.parts-is)
     ] in
     ends (fault_of (site_of [] c.args.chunk.now c.args.env.now)) part_uses c.as_slice-part-items.result.now c.loop-part.part-index (part_uses c.args.tree.now) uses c.loop-part-test.false
-        c.loop-part.invariant
+    c.loop-part.invariant

@@ -11,14 +11,14 @@ use Rattle.chyp_names.proofs.naming.fault_in_steps.Goals as goal
 pub returns-then-is_some : goal.returns-then-is_some
 returns-then-is_some c =
     stops (fault_of (site_of [] c.args.chunk.now c.args.env.now)) step_uses c.args.steps.now c.loop-step.step-index c.step-item.result (flat_map uses_in_step (map step_of c.args.steps.now))
-        c.fault_in_step-fault.result
+    c.fault_in_step-fault.result
     (uses_of_steps c.args.steps.now) c.loop-step-test.true c.loop-step.invariant
     (c.fault_in_step-fault.ensures ∙ ap (λ (step : StepAst). first_fault_among (site_of [] c.args.chunk.now c.args.env.now) (step_uses step)) c.step-item.is) c.if-is_some.ensures
 
 pub loop-step-preserved : goal.loop-step-preserved
 loop-step-preserved c =
     goes_on (fault_of (site_of [] c.args.chunk.now c.args.env.now)) step_uses c.args.steps.now c.loop-step.step-index c.step-item.result c.fault_in_step-fault.result c.loop-step-test.true
-        c.loop-step.invariant
+    c.loop-step.invariant
     (c.fault_in_step-fault.ensures ∙ ap (λ (step : StepAst). first_fault_among (site_of [] c.args.chunk.now c.args.env.now) (step_uses step)) c.step-item.is) c.if-is_some.ensures
 
 pub returns : goal.returns

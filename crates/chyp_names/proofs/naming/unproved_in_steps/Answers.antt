@@ -11,7 +11,7 @@ use Rattle.chyp_names.proofs.naming.unproved_in_steps.Goals as goal
 pub returns-then-is_some : goal.returns-then-is_some
 returns-then-is_some c =
     stops (unproved_use (site_of [] c.args.chunk.now c.args.env.now)) step_uses c.args.steps.now c.loop-step.step-index c.step-item.result (flat_map uses_in_step (map step_of c.args.steps.now))
-        c.unproved_in_by-unproved.result
+    c.unproved_in_by-unproved.result
     (uses_of_steps c.args.steps.now) c.loop-step-test.true c.loop-step.invariant
     (c.unproved_in_by-unproved.ensures ∙ ap (λ (vs : List ℕ). slice_get vs 0) (sym (unproved_in_step (site_of [] c.args.chunk.now c.args.env.now) (step_of c.step-item.result)))
     ∙ ap (λ (step : StepAst). first_unproved_among (site_of [] c.args.chunk.now c.args.env.now) (step_uses step)) c.step-item.is) c.if-is_some.ensures
@@ -19,7 +19,7 @@ returns-then-is_some c =
 pub loop-step-preserved : goal.loop-step-preserved
 loop-step-preserved c =
     goes_on (unproved_use (site_of [] c.args.chunk.now c.args.env.now)) step_uses c.args.steps.now c.loop-step.step-index c.step-item.result c.unproved_in_by-unproved.result c.loop-step-test.true
-        c.loop-step.invariant
+    c.loop-step.invariant
     (c.unproved_in_by-unproved.ensures ∙ ap (λ (vs : List ℕ). slice_get vs 0) (sym (unproved_in_step (site_of [] c.args.chunk.now c.args.env.now) (step_of c.step-item.result)))
     ∙ ap (λ (step : StepAst). first_unproved_among (site_of [] c.args.chunk.now c.args.env.now) (step_uses step)) c.step-item.is) c.if-is_some.ensures
 

@@ -9,17 +9,17 @@ pub returns-then-is_some : goal.returns-then-is_some
 returns-then-is_some c =
     stops (unproved_use (site_of [] c.args.chunk.now c.args.env.now)) rule_uses c.args.rules.now c.loop-rule.rule-index (record { minus = false; name = 0 })
     (map in_reason (map (λ rule. rule.name) c.args.rules.now)) c.unproved_name-unproved.result (uses_of_rules c.args.rules.now) c.loop-rule-test.true c.loop-rule.invariant
-        (c.unproved_name-unproved.ensures
-        ∙ sym (first_one (unproved_use (site_of [] c.args.chunk.now c.args.env.now)) (in_reason (slice_index_or c.args.rules.now c.loop-rule.rule-index (record { minus = false; name = 0 })).name)))
-        c.if-is_some.ensures
+    (c.unproved_name-unproved.ensures
+    ∙ sym (first_one (unproved_use (site_of [] c.args.chunk.now c.args.env.now)) (in_reason (slice_index_or c.args.rules.now c.loop-rule.rule-index (record { minus = false; name = 0 })).name)))
+    c.if-is_some.ensures
 
 pub loop-rule-preserved : goal.loop-rule-preserved
 loop-rule-preserved c =
     goes_on (unproved_use (site_of [] c.args.chunk.now c.args.env.now)) rule_uses c.args.rules.now c.loop-rule.rule-index (record { minus = false; name = 0 }) c.unproved_name-unproved.result
-        c.loop-rule-test.true c.loop-rule.invariant
-        (c.unproved_name-unproved.ensures
-        ∙ sym (first_one (unproved_use (site_of [] c.args.chunk.now c.args.env.now)) (in_reason (slice_index_or c.args.rules.now c.loop-rule.rule-index (record { minus = false; name = 0 })).name)))
-        c.if-is_some.ensures
+    c.loop-rule-test.true c.loop-rule.invariant
+    (c.unproved_name-unproved.ensures
+    ∙ sym (first_one (unproved_use (site_of [] c.args.chunk.now c.args.env.now)) (in_reason (slice_index_or c.args.rules.now c.loop-rule.rule-index (record { minus = false; name = 0 })).name)))
+    c.if-is_some.ensures
 
 pub returns : goal.returns
 returns c = ends (unproved_use (site_of [] c.args.chunk.now c.args.env.now)) rule_uses c.args.rules.now c.loop-rule.rule-index (map in_reason (map (λ rule. rule.name) c.args.rules.now))

@@ -6,4 +6,4 @@ use Rattle.chyp_names.proofs.steps.steps.Goals as goal
 pub step_list-requires-clause-laws : goal.step_list-requires-clause-laws
 step_list-requires-clause-laws c =
     rewrite_laws (site_of [] c.args.chunk.now c.args.env.now) c.args.ast.now c.in-RewriteDecl.name c.in-RewriteDecl.first c.in-RewriteDecl.steps c.as_slice.result.now c.in-RewriteDecl.is
-        c.as_slice.ensures c.requires.known c.requires.proved
+    c.as_slice.ensures c.requires.known c.requires.proved
