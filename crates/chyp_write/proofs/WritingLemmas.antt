@@ -71,7 +71,8 @@ pieces-turn (suc i) (p ∷ ps) d h = ap (λ t. p.now ++ t) (pieces-turn i ps d (
 pub writes-cut : {S E F : Type 0} (a b c : Option (List ℕ)) (f g h : ℕ) (x : E) (result : Result S F) (done part rest whole : List ℕ)
     → Appends a b done → g ≡ f → IsErr result → Writes {T = Unit {0}} {E = E} b c g h (Err x) part → whole ≡ done ++ (part ++ rest) → Writes a c f h result whole
 writes-cut {E = E} a b c f g h x result done part rest whole before kept is w e =
-    subst (Writes a c f h result) (sym e) (writes-more {T = Unit {0}} {E = E} a b c f g h tt result done (part ++ rest) (written a b f g tt done before kept) (writes-part b c g h x result part rest is w))
+    subst (Writes a c f h result) (sym e) (writes-more {T = Unit {0}} {E = E} a b c f g h tt result done (part ++ rest)
+    (written a b f g tt done before kept) (writes-part b c g h x result part rest is w))
 
 module _ {X : Type 0} (text : X → List ℕ) where
   turn : (i : ℕ) (xs : List X) (d : X) → i < length xs → flat_map text xs ≡ flat_map text (take i xs) ++ (text (slice_index_or xs i d) ++ flat_map text (drop (suc i) xs))
