@@ -1,0 +1,13 @@
+pub mod Numbers
+pub mod Ports
+pub mod Rounds
+pub mod Lists
+pub mod Places
+pub mod Sorting
+pub mod Fractions
+pub mod Sweeping
+pub mod Ordering
+pub mod Placing
+pub mod Drawing
+pub mod Gathering
+pub mod Best

@@ -1,0 +1,10 @@
+pub mod Columns
+pub mod Ends
+pub mod Side
+pub mod Order
+pub mod Sweep
+pub mod Spots
+pub mod Means
+pub mod PictureOf
+pub mod Crossings
+pub mod Layout
