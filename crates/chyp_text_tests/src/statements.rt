@@ -10,8 +10,9 @@ ghost use Rattle.chyp_names.specs.Typing.{AreTypedAlike};
 
 use chyp_base::{Name, Verdict};
 use chyp_lex::{Token, TokenKind, lex};
-use chyp_names::{Body, ChunkView, ElabError, Env, Meaning, bind, bind_owned, elaborate};
+use chyp_names::{Body, ChunkView, ElabError, Entry, Env, Meaning, bind, bind_owned, elaborate};
 use chyp_syntax::{Ast, parse};
+use chyp_term::{Step, Term};
 use std::alloc::Global;
 use std::test::Fail;
 
@@ -113,6 +114,57 @@ fn accept_owned(alloc: Global, env: &mut Env, text: &[u8]) -> Result<(), Fail>
     Ok(())
 }
 
+// The term in words, with each composition and tensor in parentheses, and permutations by their places.
+fn in_words(alloc: Global, term: &Term) -> Result<String, Fail> {
+    match term {
+        Term::Gen { name, .. } => Ok(format!(in alloc; "{}", name.as_str())?),
+        Term::Perm { perm, .. } => Ok(format!(in alloc; "{:?}", perm.places())?),
+        Term::Seq(first, second) => {
+            let first = in_words(alloc, first)?;
+            let second = in_words(alloc, second)?;
+            Ok(format!(in alloc; "({first} ; {second})")?)
+        }
+        Term::Par(left, right) => {
+            let left = in_words(alloc, left)?;
+            let right = in_words(alloc, right)?;
+            Ok(format!(in alloc; "({left} * {right})")?)
+        }
+    }
+}
+
+// What a step rests on, in words.
+fn step_in_words(alloc: Global, step: &Step) -> Result<String, Fail> {
+    match step {
+        Step::Refl => Ok(format!(in alloc; "laws")?),
+        Step::ByRule(rule) => {
+            let left = in_words(alloc, &rule.left)?;
+            let right = in_words(alloc, &rule.right)?;
+            Ok(format!(in alloc; "{left} to {right}")?)
+        }
+        Step::Simp(_) => Err(Fail::new("a simp")),
+    }
+}
+
+// The terms of a body, each before a bar.
+fn terms_in_words(alloc: Global, body: &Body) -> Result<String, Fail> {
+    let mut words = String::new(alloc);
+    for term in body.terms.as_slice() {
+        let term = in_words(alloc, term.term())?;
+        words = format!(in alloc; "{words}{term} | ")?;
+    }
+    Ok(words)
+}
+
+// The steps of a body, each before a bar.
+fn steps_in_words(alloc: Global, body: &Body) -> Result<String, Fail> {
+    let mut words = String::new(alloc);
+    for step in body.steps.as_slice() {
+        let step = step_in_words(alloc, step)?;
+        words = format!(in alloc; "{words}{step} | ")?;
+    }
+    Ok(words)
+}
+
 fn is_rewrite(tokens: &[Token]) -> bool
     ensures { IsTrue result ↔ IsRewrite tokens.now }
 {
@@ -149,12 +201,27 @@ fn a_rewrite_uses_what_is_bound(rt: HostRuntime) -> Result<(), Fail> {
     accept(alloc, &mut env, b"gen m : 2 -> 1")?;
     accept(alloc, &mut env, b"let left = m * id ; m")?;
     accept_owned(alloc, &mut env, b"rule assoc : left = id * m ; m")?;
+    match env.lookup(b"left") {
+        Some(
+            Entry {
+                meaning: Meaning::Abbrev(known),
+                ..
+            },
+        ) => assert_eq!(rt; in_words(alloc, known.term())?.as_str(), "((m * [0]) ; m)"),
+        _ => return Err(Fail::new("left is no term")),
+    }
     let text = b"rewrite w : left = m * id ; m = id * m ; m by assoc = ? by -assoc".as_slice();
     let tokens = tokens_of(alloc, text)?;
     let chunk = lent(text, &tokens);
     let body = meant(alloc, &env, &chunk)?;
-    assert_eq!(rt; body.terms.as_slice().len(), 3);
-    assert_eq!(rt; body.steps.as_slice().len(), 3);
+    assert_eq!(rt;
+        terms_in_words(alloc, &body)?.as_str(),
+        "((m * [0]) ; m) | ((m * [0]) ; m) | (([0] * m) ; m) | "
+    );
+    assert_eq!(rt;
+        steps_in_words(alloc, &body)?.as_str(),
+        "laws | ((m * [0]) ; m) to (([0] * m) ; m) | (([0] * m) ; m) to ((m * [0]) ; m) | "
+    );
     assert!(rt; body.hole);
     Ok(())
 }
