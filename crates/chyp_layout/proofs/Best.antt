@@ -6,8 +6,7 @@ use Rattle.std.proofs.lemmas.List.{length-map}
 use Rattle.std.proofs.lemmas.List.Sorted.{All-permutation, IsPermutation-reverse, length_permutation}
 use Rattle.std.proofs.lemmas.List.Sums.{sum_by-cons}
 use Rattle.chyp_graph.specs.PlainGraph.{PlainGraph}
-use Rattle.chyp_graph.proofs.Members.{Member, filter-member, map-member, member-split}
-use Rattle.chyp_graph.proofs.Ports.{All-from_get_members}
+use Rattle.chyp_term.proofs.Members.{Member, filter-member, map-member, member-split, All-from_get_members}
 use Rattle.chyp_picture.specs.Crossings.{HasBox, crossings_of}
 use Rattle.chyp_picture.specs.declared.end.End.{End}
 use Rattle.chyp_picture.specs.declared.end.End.TheVariants.{Input, Output, Port}

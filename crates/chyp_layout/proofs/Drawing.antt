@@ -11,8 +11,8 @@ use Rattle.chyp_term.proofs.Permuted.{get-map, length-count_from}
 use Rattle.chyp_term.proofs.Positions.{slice_get-length}
 use Rattle.chyp_graph.specs.PlainGraph.{Edge, PlainGraph}
 use Rattle.chyp_graph.specs.Validity.{IsValid}
-use Rattle.chyp_graph.proofs.Members.{Member, map-member}
-use Rattle.chyp_graph.proofs.Ports.{All-from_get_members, take-suc}
+use Rattle.chyp_term.proofs.Members.{Member, map-member, All-from_get_members}
+use Rattle.chyp_term.proofs.Slices.{take-suc}
 use Rattle.chyp_graph.proofs.Removing.{port-edge}
 use Rattle.chyp_picture.specs.declared.box_at.BoxAt.{BoxAt}
 use Rattle.chyp_picture.specs.declared.end.End.{End}

@@ -4,8 +4,8 @@ use Rattle.std.specs.List.{cons_option, filter_map, range_with_len}
 use Rattle.std.proofs.lemmas.Bool.{cases_lt, le-ltb, lt-ltb}
 use Rattle.std.proofs.lemmas.List.{length-map}
 use Rattle.chyp_term.proofs.Positions.{slice_get-length}
-use Rattle.chyp_graph.proofs.Members.{map-member}
-use Rattle.chyp_graph.proofs.Ports.{All-from_get_members, take-suc}
+use Rattle.chyp_term.proofs.Members.{map-member, All-from_get_members}
+use Rattle.chyp_term.proofs.Slices.{take-suc}
 use Rattle.chyp_picture.specs.Crossings.{piece_at, pieces_between}
 use Rattle.chyp_picture.specs.Picture.{column_of}
 use Rattle.chyp_picture.specs.declared.line.Line.{Line}

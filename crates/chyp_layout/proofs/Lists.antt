@@ -3,8 +3,9 @@ use Rattle.std.proofs.Common.{ℕ, zero, suc, ◌+◌, ◌<◌, ◌≡◌, Bool,
 use Rattle.std.specs.List.{enumerate_from}
 use Rattle.std.proofs.lemmas.List.{map-append, length-take}
 use Rattle.chyp_term.specs.Perm.{count_from}
-use Rattle.chyp_term.proofs.Positions.{count_from-push, slice_get-length}
-use Rattle.chyp_graph.proofs.Ports.{take-suc}
+use Rattle.chyp_term.proofs.Counting.{count_from-push}
+use Rattle.chyp_term.proofs.Positions.{slice_get-length}
+use Rattle.chyp_term.proofs.Slices.{take-suc}
 
 -- a list made of numbers in order
 pub numbered-more : {A : Type 0} (f : ℕ → A) (xs new : List A) (w : ℕ) (x : A) → xs ≡ map f (count_from 0 w) → new ≡ xs ++ x ∷ [] → x ≡ f w → new ≡ map f (count_from 0 (w + 1))

@@ -1,7 +1,7 @@
 -- Greatest numbers, and lists that agree place by place.
 use Rattle.std.proofs.Common.{ℕ, suc, ◌≤◌, ◌≡◌, max, List, [], ◌∷◌, length, Some, slice_get, inl, inr, refl, ap₂, arith}
 use Rattle.std.specs.List.{fold}
-use Rattle.chyp_graph.proofs.Members.{Member}
+use Rattle.chyp_term.proofs.Members.{Member}
 use Rattle.chyp_layout.specs.Columns.{greatest}
 
 fold-from : (a : ℕ) (ns : List ℕ) → a ≤ fold max a ns

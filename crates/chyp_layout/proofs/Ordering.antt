@@ -7,8 +7,8 @@ use Rattle.std.proofs.lemmas.List.{length-map, map-append}
 use Rattle.chyp_term.proofs.Closure.{get-index}
 use Rattle.chyp_term.proofs.Permuted.{get-map}
 use Rattle.chyp_term.proofs.Positions.{slice_get-length}
-use Rattle.chyp_graph.proofs.Members.{Member}
-use Rattle.chyp_graph.proofs.Ports.{get-set_other, get-set_same}
+use Rattle.chyp_term.proofs.Members.{Member}
+use Rattle.chyp_term.proofs.Slices.{get-set_other, get-set_same}
 use Rattle.chyp_layout.specs.Columns.{end_column, greatest}
 use Rattle.chyp_layout.specs.Order.{AreExtended, bends_in, boxes_in, first_order, is_between}
 use Rattle.chyp_layout.specs.declared.ends.Ends.{Ends}

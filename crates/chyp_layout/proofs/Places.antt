@@ -9,7 +9,8 @@ use Rattle.chyp_term.proofs.Permuted.{found}
 use Rattle.chyp_graph.specs.PlainGraph.{Edge, PlainGraph}
 use Rattle.chyp_graph.specs.Removal.{IsWritten}
 use Rattle.chyp_graph.specs.Validity.{IsValid}
-use Rattle.chyp_graph.proofs.Ports.{All-members, take-suc}
+use Rattle.chyp_term.proofs.Members.{All-members}
+use Rattle.chyp_term.proofs.Slices.{take-suc}
 use Rattle.chyp_graph.proofs.Removing.{sources-within, targets-wires}
 use Rattle.chyp_layout.specs.Side.{IsItem, ports_on, wires_on}
 use Rattle.chyp_layout.specs.Sweep.{place_on}

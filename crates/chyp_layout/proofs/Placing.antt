@@ -6,8 +6,8 @@ use Rattle.std.proofs.lemmas.List.Sums.{fold_push}
 use Rattle.chyp_term.proofs.Permuted.{found}
 use Rattle.chyp_graph.specs.PlainGraph.{Edge, PlainGraph}
 use Rattle.chyp_graph.specs.Validity.{IsValid}
-use Rattle.chyp_graph.proofs.Members.{Member, member-split}
-use Rattle.chyp_graph.proofs.Ports.{All-from_get_members, take-suc}
+use Rattle.chyp_term.proofs.Members.{Member, member-split, All-from_get_members}
+use Rattle.chyp_term.proofs.Slices.{take-suc}
 use Rattle.chyp_picture.specs.declared.point.Point.{Point}
 use Rattle.chyp_layout.specs.Side.{AreItems, IsItem, ports_on}
 use Rattle.chyp_layout.specs.Spots.{IsBoxBelow, IsWireBelow, bend_at, bends_on, box_spot, edge_height, height_of, is_box, is_wire, nowhere, placed_from, placed_in}

@@ -8,8 +8,7 @@ use Rattle.chyp_term.proofs.Positions.{slice_get-length}
 use Rattle.chyp_graph.specs.Graph.{source_at, target_at}
 use Rattle.chyp_graph.specs.PlainGraph.{Edge, PlainGraph, sources_of, targets_of}
 use Rattle.chyp_graph.specs.Validity.{IsValid}
-use Rattle.chyp_graph.proofs.Members.{Member, member-among, member-get, member-split, place-first}
-use Rattle.chyp_graph.proofs.Ports.{Contains-member}
+use Rattle.chyp_term.proofs.Members.{Member, member-among, member-get, member-split, place-first, Contains-member}
 use Rattle.chyp_graph.proofs.Removing.{Once, Once-apart, Once-perm, Once-right, port-member, port-once, port_at}
 use Rattle.chyp_picture.specs.declared.end.End.{End}
 use Rattle.chyp_picture.specs.declared.end.End.TheVariants.{Input, Output, Port}

@@ -11,9 +11,8 @@ use Rattle.chyp_graph.specs.PlainGraph.{Edge, PlainGraph, targets_of}
 use Rattle.chyp_graph.specs.Removal.{IsLiveFrom}
 use Rattle.chyp_graph.specs.Rounds.{AreRounds, IsRound, is_taken_within}
 use Rattle.chyp_graph.specs.Validity.{IsValid, is_ready, taken_within}
-use Rattle.chyp_graph.proofs.Dating.{among-later, round-few, target-live}
-use Rattle.chyp_graph.proofs.Members.{Member, all-members, among-member, filter-member, flat-member, get-member, map-member, member-among, member-get, member-left, member-map, member-split, members-all}
-use Rattle.chyp_graph.proofs.Ports.{All-from_get_members}
+use Rattle.chyp_graph.proofs.Levelling.{among-later, round-few, target-live}
+use Rattle.chyp_term.proofs.Members.{Member, all-members, among-member, filter-member, flat-member, get-member, map-member, member-among, member-get, member-left, member-map, member-split, members-all, All-from_get_members}
 use Rattle.chyp_graph.proofs.Rounds.{live_after}
 use Rattle.chyp_layout.specs.Columns.{AreKept, column_along, columns_of, greatest, producer_of}
 use Rattle.chyp_layout.proofs.Numbers.{greatest-above, greatest-least, same-items}

@@ -1,5 +1,5 @@
 use Rattle.std.proofs.Common.{◌≡◌, ◌+◌, ◌∙◌, Some, [], ap, replicate, slice_get, sym}
-use Rattle.chyp_graph.proofs.Ports.{get-is}
+use Rattle.chyp_term.proofs.Closure.{get-item}
 use Rattle.chyp_layout.proofs.Gathering.{pieces-more, pieces-none}
 use Rattle.chyp_layout.proofs.crossings.gaps_of.Goals as goal
 
@@ -12,5 +12,5 @@ loop-line-preserved c =
     let l = c.loop-line in
     let t = c.line-item.result in
     let s = c.as_slice-line-items in
-    let h : slice_get p.lines l.line-index ≡ Some t = ap (λ xs. slice_get xs l.line-index) (sym s.ensures) ∙ get-is s.result.now l.line-index t c.loop-line-test.true c.line-item.is in
+    let h : slice_get p.lines l.line-index ≡ Some t = ap (λ xs. slice_get xs l.line-index) (sym s.ensures) ∙ get-item s.result.now l.line-index t c.loop-line-test.true c.line-item.is in
     pieces-more p p.lines l.line-index (p.columns + 1) t l.gaps.items c.push_pieces.new.gaps.items h l.invariant c.in_ok-push_pieces.ensures

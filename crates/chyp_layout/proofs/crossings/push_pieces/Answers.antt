@@ -1,5 +1,5 @@
 use Rattle.std.proofs.Common.{◌-◌, ◌+◌, ◌++◌, ◌∷◌, [], ◌≡◌, ◌∙◌, ap, ap₂, arith, length, min, subst}
-use Rattle.chyp_graph.proofs.Ports.{get-is}
+use Rattle.chyp_term.proofs.Closure.{get-item}
 use Rattle.chyp_picture.specs.Crossings.{end_after}
 use Rattle.chyp_picture.specs.Picture.{column_of}
 use Rattle.chyp_layout.specs.Crossings.{piece_from}
@@ -22,11 +22,11 @@ loop-at-preserved c =
     let n = c.args.gaps.now.ok.0 in
     let t = c.loop-at-test.true in
     let old = c.index_mut-gap.result.now in
-    let is : c.piece.result ≡ piece_from p line l.at = c.piece.ensures ∙ ap (λ s. record { left = end_after p line (l.at - s); right = end_after p line (l.at - s + 1) }) c.column-start.ensures in
+    let is : c.piece.result ≡ piece_from p line l.at = c.piece.ensures ∙ ap (λ s. record { left = end_after p line (l.at - s); right = end_after p line (l.at - s + 1) }) c.column-start.ensures.same in
     record {
       low = omega arith;
       pieces = extended-more (piece_from p line) c.column-start.result l.at c.args.gaps.now.items l.gaps.items old c.push.new.self l.auto.at e
-          (get-is l.gaps.items l.at old (omega arith) c.index_mut-gap.ensures.value) (c.in_ok-push.ensures ∙ ap (λ x. old ++ x ∷ []) is);
+          (get-item l.gaps.items l.at old (omega arith) c.index_mut-gap.ensures.value) (c.in_ok-push.ensures ∙ ap (λ x. old ++ x ∷ []) is);
     }
 
 pub returns : goal.returns
@@ -34,5 +34,5 @@ returns c =
     let l = c.loop-at in
     let item = piece_from c.args.picture.now c.args.line.now in
     let all = extended-all item c.column-start.result l.at c.min-end.result c.args.gaps.now.items l.gaps.items c.loop-at-test.false l.invariant.low l.invariant.pieces in
-    subst (λ n. AreExtended item n (min (column_of c.args.picture.now c.args.line.now.to) (length c.args.gaps.now.items)) c.args.gaps.now.items l.gaps.items) c.column-start.ensures
-    (subst (λ n. AreExtended item c.column-start.result n c.args.gaps.now.items l.gaps.items) (c.min-end.ensures ∙ ap₂ min c.column.ensures (c.len.ensures ∙ c.args.gaps.now.ok.0)) all)
+    subst (λ n. AreExtended item n (min (column_of c.args.picture.now c.args.line.now.to) (length c.args.gaps.now.items)) c.args.gaps.now.items l.gaps.items) c.column-start.ensures.same
+    (subst (λ n. AreExtended item c.column-start.result n c.args.gaps.now.items l.gaps.items) (c.min-end.ensures ∙ ap₂ min c.column.ensures.same (c.len.ensures ∙ c.args.gaps.now.ok.0)) all)

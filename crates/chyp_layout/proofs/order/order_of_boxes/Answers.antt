@@ -1,5 +1,5 @@
 use Rattle.std.proofs.Common.{◌-◌, ◌∙◌, ap, arith, replicate, slice_index, []}
-use Rattle.chyp_graph.proofs.Ports.{get-is}
+use Rattle.chyp_term.proofs.Closure.{get-item}
 use Rattle.chyp_layout.specs.Columns.{greatest}
 use Rattle.chyp_layout.proofs.Ordering.{boxes-more, boxes-none, column-at, length-boxes}
 use Rattle.chyp_layout.proofs.order.order_of_boxes.Goals as goal
@@ -26,4 +26,4 @@ loop-k-preserved c =
     let low = a.1 in
     let high = a.2 in
     boxes-more c.args.columns.now (greatest c.args.columns.now) l.k (slice_index s.result.now l.k) l.order.items c.index_mut-column.result.now c.push.new.self a.0 low high l.invariant
-    (get-is l.order.items (slice_index s.result.now l.k - 1) c.index_mut-column.result.now (omega arith) c.index_mut-column.ensures.value) c.in_ok-push.ensures
+    (get-item l.order.items (slice_index s.result.now l.k - 1) c.index_mut-column.result.now (omega arith) c.index_mut-column.ensures.value) c.in_ok-push.ensures

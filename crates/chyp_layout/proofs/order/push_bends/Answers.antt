@@ -1,5 +1,5 @@
 use Rattle.std.proofs.Common.{arith}
-use Rattle.chyp_graph.proofs.Ports.{get-is}
+use Rattle.chyp_term.proofs.Closure.{get-item}
 use Rattle.chyp_layout.specs.declared.item.Item.TheVariants.{Wire}
 use Rattle.chyp_layout.proofs.Ordering.{extended-all, extended-more, extended-none}
 use Rattle.chyp_layout.proofs.order.push_bends.Goals as goal
@@ -17,7 +17,7 @@ loop-place-preserved c =
     record {
       low = omega arith;
       bends = extended-more (λ _. Wire c.args.wire) c.args.from l.place c.args.order.now.items l.order.items c.index_mut-column.result.now c.push.new.self l.auto.place e
-          (get-is l.order.items l.place c.index_mut-column.result.now (omega arith) c.index_mut-column.ensures.value) c.in_ok-push.ensures;
+          (get-item l.order.items l.place c.index_mut-column.result.now (omega arith) c.index_mut-column.ensures.value) c.in_ok-push.ensures;
     }
 
 pub returns : goal.returns

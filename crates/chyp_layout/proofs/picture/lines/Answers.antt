@@ -1,5 +1,5 @@
 use Rattle.std.proofs.Common.{◌<◌, ◌∙◌, arith, get_or, length, subst, sym}
-use Rattle.chyp_graph.proofs.Ports.{get-is}
+use Rattle.chyp_term.proofs.Closure.{get-item}
 use Rattle.chyp_picture.specs.declared.end.End.TheVariants.{Input}
 use Rattle.chyp_layout.specs.PictureOf.{IsPortOn, line_of}
 use Rattle.chyp_layout.specs.Spots.{bends_on}
@@ -34,7 +34,7 @@ loop-w-preserved c =
     let k = c.wire_count-w-end.ensures.count in
     let below : w < length g.wires = omega arith in
     let x = get_or c.args.ends.now w (record { from = Input 0; to = Input 0 }) in
-    let trail = table-at (bends_on placed) (length g.wires) w c.args.bends.now c.index-bends-w.result b below (get-is c.args.bends.now w c.index-bends-w.result (omega
+    let trail = table-at (bends_on placed) (length g.wires) w c.args.bends.now c.index-bends-w.result b below (get-item c.args.bends.now w c.index-bends-w.result (omega
     (arith, c.requires.bends)) c.index-bends-w.is) in
     ranked-more (λ p. line_of g placed p.0 p.1) g.wires w c.wire_sort.result.now c.loop-w.lines.items c.push.new.self.items _ c.wire_sort.ensures
     (c.loop-w.invariant placed q b) c.in_ok-push.ensures.items

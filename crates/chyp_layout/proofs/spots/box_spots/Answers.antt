@@ -1,5 +1,6 @@
 use Rattle.std.proofs.Common.{◌≡◌, ◌∙◌, [], ap, refl, subst, sym}
-use Rattle.chyp_graph.proofs.Ports.{all-is, get-is}
+use Rattle.chyp_term.proofs.Slices.{all-is}
+use Rattle.chyp_term.proofs.Closure.{get-item}
 use Rattle.chyp_layout.specs.Spots.{IsBoxBelow, box_spot, nowhere}
 use Rattle.chyp_layout.specs.declared.item.Item.TheVariants.{Box}
 use Rattle.chyp_layout.proofs.Placing.{box-kept, box-written, nothing}
@@ -13,7 +14,7 @@ pub loop-p-preserved : goal.loop-p-preserved
 loop-p-preserved c =
     let l = c.loop-p in
     let p = c.p-item.result in
-    let h = get-is c.args.placed.now l.p-index p c.loop-p-test.true c.p-item.is in
+    let h = get-item c.args.placed.now l.p-index p c.loop-p-test.true c.p-item.is in
     elim c.match-p.branch [
       | in-Box w ↦
           let b : p.item ≡ Box w.k.inside.0 = w.in-Box.is ∙ ap (λ k. Box k) (sym w.k.view_is) in

@@ -1,5 +1,5 @@
 use Rattle.std.proofs.Common.{◌≡◌, ◌+◌, ◌∙◌, ap, arith}
-use Rattle.chyp_graph.proofs.Ports.{get-is}
+use Rattle.chyp_term.proofs.Closure.{get-item}
 use Rattle.chyp_layout.proofs.Placing.{placed-more, top-more}
 use Rattle.chyp_layout.specs.Spots.{height_of}
 use Rattle.chyp_layout.proofs.spots.place.Goals as goal
@@ -9,7 +9,7 @@ loop-place-preserved c =
     let g = c.args.graph.now in
     let l = c.loop-place in
     let t = c.index-items-place.result in
-    let h = get-is c.args.items.now l.place t c.loop-place-test.true c.index-items-place.is in
+    let h = get-item c.args.items.now l.place t c.loop-place-test.true c.index-items-place.is in
     let e : l.top + (c.height.result + 20) ≡ l.top + height_of g t + 20 = (let q = c.height.ensures.height in omega arith) in
     let few = c.height.ensures.few in
     let low = l.invariant.low in

@@ -1,5 +1,6 @@
 use Rattle.std.proofs.Common.{◌≡◌, ◌<◌, ◌∙◌, [], ap, arith, refl, subst, sym, take}
-use Rattle.chyp_graph.proofs.Ports.{all-is, get-is}
+use Rattle.chyp_term.proofs.Slices.{all-is}
+use Rattle.chyp_term.proofs.Closure.{get-item}
 use Rattle.chyp_layout.specs.Spots.{IsWireBelow, bends_on}
 use Rattle.chyp_layout.specs.declared.item.Item.TheVariants.{Wire}
 use Rattle.chyp_layout.proofs.Placing.{bend-kept, bend-written, length-table, nothing}
@@ -24,7 +25,7 @@ pub loop-p-preserved : goal.loop-p-preserved
 loop-p-preserved c =
     let l = c.loop-p in
     let p = c.p-item.result in
-    let h = get-is c.args.placed.now l.p-index p c.loop-p-test.true c.p-item.is in
+    let h = get-item c.args.placed.now l.p-index p c.loop-p-test.true c.p-item.is in
     elim c.match-p.branch [
       | in-Box w ↦ ap (λ v. v.items) w.trails-is ∙ bend-kept c.args.placed.now l.p-index c.args.count w.in-Box.field-0 p l.trails.items h w.in-Box.is l.invariant
       | in-Wire+in_ok-push-in-Wire w ↦
@@ -33,5 +34,5 @@ loop-p-preserved c =
           let n = length-table (bends_on (take l.p-index c.args.placed.now)) c.args.count l.trails.items l.invariant in
           let below : w.w.inside.0 < c.args.count = subst (IsWireBelow c.args.count) b f.0 in
           ap (λ v. v.items) w.trails-is ∙ bend-written c.args.placed.now l.p-index c.args.count w.w.inside.0 p l.trails.items w.index_mut-trail.result.now w.push.new.self h b below l.invariant
-          (get-is l.trails.items w.w.inside.0 w.index_mut-trail.result.now (omega arith) w.index_mut-trail.ensures.value) w.in_ok-push-in-Wire.ensures
+          (get-item l.trails.items w.w.inside.0 w.index_mut-trail.result.now (omega arith) w.index_mut-trail.ensures.value) w.in_ok-push-in-Wire.ensures
     ]

@@ -1,7 +1,8 @@
 use Rattle.std.proofs.Common.{◌<◌, ◌∙◌, All, length, sym, ap, subst}
 use Rattle.std.proofs.lemmas.List.{take_all}
 use Rattle.chyp_graph.specs.Removal.{IsWritten}
-use Rattle.chyp_graph.proofs.Ports.{all-is, get-is}
+use Rattle.chyp_term.proofs.Slices.{all-is}
+use Rattle.chyp_term.proofs.Closure.{get-item}
 use Rattle.chyp_layout.specs.Side.{IsItem}
 use Rattle.chyp_layout.proofs.Places.{cleared, cleared-all, cleared-more, wires-within}
 use Rattle.chyp_layout.proofs.sweep.clear.Goals as goal
@@ -17,7 +18,7 @@ pub loop-item-preserved : goal.loop-item-preserved
 loop-item-preserved c =
     let g = c.args.graph.now in
     let t = c.item-item.result in
-    let h = get-is c.args.items.now c.loop-item.item-index t c.loop-item-test.true c.item-item.is in
+    let h = get-item c.args.items.now c.loop-item.item-index t c.loop-item-test.true c.item-item.is in
     cleared-more g c.args.side c.args.items.now c.loop-item.item-index t c.args.places.now c.loop-item.places c.write_at.new.places h c.loop-item.invariant.0 c.loop-item.invariant.1
     (subst (λ l. IsWritten l 0 c.loop-item.places c.write_at.new.places) c.wires_on.ensures c.write_at.ensures)
 

@@ -1,6 +1,7 @@
 use Rattle.std.proofs.Common.{ℕ, ◌≡◌, ◌<◌, ◌∙◌, All, ap, ap₂, length, map, slice_index, subst, sym}
 use Rattle.std.specs.List.{enumerate_from}
-use Rattle.chyp_graph.proofs.Ports.{all-is, get-is, written-back}
+use Rattle.chyp_term.proofs.Slices.{all-is, written-back}
+use Rattle.chyp_term.proofs.Closure.{get-item}
 use Rattle.chyp_layout.specs.Means.{ranked_by}
 use Rattle.chyp_layout.specs.Side.{AreItems, IsItem}
 use Rattle.chyp_layout.specs.Sweep.{last_of, place_on}
@@ -38,7 +39,7 @@ loop-column-preserved c =
     let second : length c.clear.new.places ≡ length l.places.items = c.clear.ensures.size ∙ sym size in
     let left = lent-twice c.note.new.places c.clear.new.places l.places.items l.places.len l.places.ok.0 first second in
     let t = c.column-item.result in
-    let h = get-is c.args.order.now l.column-index t c.loop-column-test.true c.column-item.is in
+    let h = get-item c.args.order.now l.column-index t c.loop-column-test.true c.column-item.is in
     let a = all-is (AreItems g) c.args.order.now l.column-index t c.loop-column-test.true c.column-item.is c.requires.order in
     let beside : c.as_slice.result.now ≡ last_of rim l.now.items = c.as_slice.ensures ∙ c.last_or-beside.ensures ∙ ap (last_of rim) c.deref.ensures.value in
     let read : c.deref-in-loop-column.result.now ≡ c.note.new.places = c.deref-in-loop-column.ensures.value ∙ written-back c.note.new.places l.places.items l.places.len l.places.ok.0 first in
