@@ -1,6 +1,6 @@
 //! Tests of the crates about terms and graphs: `chyp_term`, `chyp_theory`, `chyp_graph`, `chyp_iso`,
-//! `chyp_pattern`, `chyp_match`, `chyp_laws`, `chyp_judge` and `chyp_replace`, with a module for each topic,
-//! and the small terms that they share in `diagrams`.
+//! `chyp_pattern`, `chyp_match`, `chyp_laws`, `chyp_judge`, `chyp_replace` and `chyp_layout`, with a module
+//! for each topic, and the small terms that they share in `diagrams`.
 //!
 //! They have a crate of their own, as a crate with tests is proved twice, with them and without. It has
 //! no other code.
@@ -16,6 +16,8 @@ mod isomorphism;
 mod judging;
 #[cfg(test)]
 mod laws;
+#[cfg(test)]
+mod layouts;
 #[cfg(test)]
 mod patterns;
 #[cfg(test)]
