@@ -10,6 +10,7 @@ ghost use Rattle.chyp_graph.specs.Graph.{lent_edge, source_at, target_at};
 ghost use Rattle.chyp_graph.specs.GraphOf.{graph_of};
 ghost use Rattle.chyp_graph.specs.Joining.{AreApart, AreJoinedAt, numbers_behind};
 ghost use Rattle.chyp_graph.specs.PlainGraph.{PlainGraph, input_sorts, output_sorts};
+ghost use Rattle.chyp_graph.specs.Removal.{IsTopologicalOrder};
 ghost use Rattle.chyp_graph.specs.Rounds.{AreRounds};
 ghost use Rattle.chyp_graph.specs.Validity.{IsValid};
 
@@ -195,6 +196,18 @@ impl Graph {
         let alloc = *self.wires.allocator();
         let order = topological_order(alloc, self)?;
         rounds_in(alloc, self, &order)
+    }
+
+    /// The edges in topological order: each comes after those that make its sources. It takes time and
+    /// memory in proportion to the graph.
+    ///
+    /// # Errors
+    ///
+    /// `NoMemory` where the order can't be kept.
+    pub fn topological_order(&self) -> Result<Vec<EdgeId>, NoMemory>
+        ensures { IfOk result (λ order. IsTopologicalOrder self.now order.items) }
+    {
+        topological_order(*self.wires.allocator(), self)
     }
 
     /// Every graph is valid, with fewer than 2^31 edges and as many wires: a call brings a proof this

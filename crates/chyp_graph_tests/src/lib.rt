@@ -19,6 +19,8 @@ mod laws;
 #[cfg(test)]
 mod layouts;
 #[cfg(test)]
+mod occurrences;
+#[cfg(test)]
 mod patterns;
 #[cfg(test)]
 mod replacing;

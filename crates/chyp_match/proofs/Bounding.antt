@@ -25,6 +25,7 @@ use Rattle.chyp_pattern.specs.Occurrences.{AreOccurrences, IsBefore}
 use Rattle.chyp_pattern.specs.declared.occurrence.Occurrence.{Occurrence}
 use Rattle.chyp_pattern.proofs.Lexicographic.{less-anti}
 use Rattle.chyp_pattern.specs.Placements.{AreCounts, IsThere, MayBegin, product}
+use Rattle.chyp_match.specs.Search.{image_of}
 use Rattle.chyp_match.proofs.Counting.{anchor-there}
 
 -- maps that give the same list give the same of each item
@@ -60,25 +61,19 @@ second-apart n xs ys t = (Apart-split xs ys (Rearr-Apart (permutation-Rearr n (x
 
 -- ## two occurrences that have the same images of the anchors
 
--- the image of an anchor
-abbrev pub image_at : Occurrence → Anchor → ℕ
-image_at o (AtEdge k) = slice_index o.edges k
-image_at o (AtWire w) = slice_index o.wires w
-
 joined-below : (l : PlainGraph) (j k : ℕ) → AreJoined l j k → j < length l.edges → k < length l.edges
 joined-below l j k same h = h
 joined-below l j k (next r s t) h = slice_get-length l.edges k t.edge t.is
 
 module _ (l g : PlainGraph) (v : IsValid g) (o p : Occurrence) (a : IsOccurrence l g o.edges o.wires) (b : IsOccurrence l g p.edges p.wires) where
-  SameEdge : ℕ → Type 0
+  abbrev pub SameEdge : ℕ → Type 0
   SameEdge k = slice_index o.edges k ≡ slice_index p.edges k
 
-  SameWire : ℕ → Type 0
+  abbrev pub SameWire : ℕ → Type 0
   SameWire w = slice_index o.wires w ≡ slice_index p.wires w
 
   -- the ports of an edge go with it
   edge_wire : (k w : ℕ) → IsPortOf l k w → SameEdge k → SameWire w
-  unfolding SameEdge SameWire
   edge_wire k w t q =
       same-on (slice_index o.wires) (slice_index p.wires) (t.edge.sources ++ t.edge.targets) w
       (map-append (slice_index o.wires) t.edge.sources t.edge.targets
@@ -96,7 +91,6 @@ module _ (l g : PlainGraph) (v : IsValid g) (o p : Occurrence) (a : IsOccurrence
 
   -- and the edge with any of its ports, since no other edge of g has the wire there
   wire_edge : (k w : ℕ) → IsPortOf l k w → SameWire w → SameEdge k
-  unfolding SameEdge SameWire
   wire_edge k w t q = go (member-split t.edge.sources t.edge.targets w (Contains-member (t.edge.sources ++ t.edge.targets) w t.has))
     where
       below : k < length l.edges
@@ -125,35 +119,38 @@ module _ (l g : PlainGraph) (v : IsValid g) (o p : Occurrence) (a : IsOccurrence
   joined_back j k same q = q
   joined_back j k (next {k = m} r {w = w} s t) q = joined_back j m r (wire_edge m w s (edge_wire k w t q))
 
-  module _ (edges wires : List ℕ) (firsts : AreThose (IsFirstEdge l) edges) (bares : AreThose (IsBare l) wires)
-      (edges_agree : (k : ℕ) → Member k edges → SameEdge k) (wires_agree : (w : ℕ) → Member w wires → SameWire w) where
-    -- by the first edge of its component, which is joined to it
-    edge_same : (bound k : ℕ) → k < bound → k < length l.edges → SameEdge k
-    unfolding SameEdge
-    edge_same zero k h c = absurd (omega arith)
-    edge_same (suc bound) k h c = go (cases_eq (slice_index o.edges k) (slice_index p.edges k)) (λ m x y. edge_same bound m x y)
-      where
-        go : (SameEdge k) ⊎ (SameEdge k → ⊥) → ((m : ℕ) → m < bound → m < length l.edges → SameEdge m) → SameEdge k
-        go (inl q) ih = q
-        go (inr n) ih =
-            absurd (n (edges_agree k (Contains-member edges k
-            (let f = firsts.members k in f.1 (record { there = c; first = λ m r. least m r (cases_lt m k) })))))
-          where
-            least : (m : ℕ) → AreJoined l k m → (m < k) ⊎ (k ≤ m) → k ≤ m
-            least m r (inl lt) = absurd (n (joined_back k m r (ih m (omega arith) (joined-below l k m r c))))
-            least m r (inr le) = le
+  -- the edges below a number have the same images where the first edges below it have
+  pub edges_same_below : (edges : List ℕ) → AreThose (IsFirstEdge l) edges → (upto : ℕ) → ((k : ℕ) → Member k edges → k < upto → SameEdge k)
+      → (bound k : ℕ) → k < bound → k < upto → k < length l.edges → SameEdge k
+  edges_same_below edges firsts upto agree zero k h u c = absurd (omega arith)
+  edges_same_below edges firsts upto agree (suc bound) k h u c =
+      go (cases_eq (slice_index o.edges k) (slice_index p.edges k)) (λ m x y z. edges_same_below edges firsts upto agree bound m x y z)
+    where
+      go : (SameEdge k) ⊎ (SameEdge k → ⊥) → ((m : ℕ) → m < bound → m < upto → m < length l.edges → SameEdge m) → SameEdge k
+      go (inl q) ih = q
+      go (inr n) ih =
+          absurd (n (agree k (Contains-member edges k
+          (let f = firsts.members k in f.1 (record { there = c; first = λ m r. least m r (cases_lt m k) }))) u))
+        where
+          -- the first edge of its component, which is joined to it, would have the same image
+          least : (m : ℕ) → AreJoined l k m → (m < k) ⊎ (k ≤ m) → k ≤ m
+          least m r (inl lt) = absurd (n (joined_back k m r (ih m (omega arith) (omega arith) (joined-below l k m r c))))
+          least m r (inr le) = le
 
+  module _ (edges_all : (k : ℕ) → k < length l.edges → SameEdge k) where
     port_same : (w : ℕ) (e : Edge) → Member e l.edges → Contains (e.sources ++ e.targets) w → SameWire w
     port_same w e m c =
         let k = member-get l.edges e m in
-        edge_wire k.0 w (record { edge = e; is = k.1; has = c }) (edge_same (suc k.0) k.0 (omega arith) (slice_get-length l.edges k.0 e k.1))
+        edge_wire k.0 w (record { edge = e; is = k.1; has = c }) (edges_all k.0 (slice_get-length l.edges k.0 e k.1))
 
-    wire_same : (w : ℕ) → w < length l.wires → SameWire w
-    wire_same w h = go (cases_Bool (is_apart (targets_of l.edges) w)) (cases_Bool (is_apart (sources_of l.edges) w))
+    -- the wires below a number have the same images where the bare ones below it have
+    pub wires_same_below : (wires : List ℕ) → AreThose (IsBare l) wires → (upto : ℕ) → ((w : ℕ) → Member w wires → w < upto → SameWire w)
+        → (w : ℕ) → w < upto → w < length l.wires → SameWire w
+    wires_same_below wires bares upto agree w u h = go (cases_Bool (is_apart (targets_of l.edges) w)) (cases_Bool (is_apart (sources_of l.edges) w))
       where
         go : (is_apart (targets_of l.edges) w ≡ true) ⊎ (is_apart (targets_of l.edges) w ≡ false)
             → (is_apart (sources_of l.edges) w ≡ true) ⊎ (is_apart (sources_of l.edges) w ≡ false) → SameWire w
-        go (inl x) (inl y) = wires_agree w (Contains-member wires w (let f = bares.members w in f.1 (record { there = h; unmade = x; unused = y })))
+        go (inl x) (inl y) = agree w (Contains-member wires w (let f = bares.members w in f.1 (record { there = h; unmade = x; unused = y }))) u
         go (inr x) y =
             let e = flat-member (λ e. e.targets) l.edges w (Contains-member (targets_of l.edges) w (image-contains (targets_of l.edges) w x)) in
             port_same w e.0 e.1 (member-Contains (e.0.sources ++ e.0.targets) w (member-right e.0.sources e.0.targets w e.2))
@@ -161,19 +158,25 @@ module _ (l g : PlainGraph) (v : IsValid g) (o p : Occurrence) (a : IsOccurrence
             let e = flat-member (λ e. e.sources) l.edges w (Contains-member (sources_of l.edges) w (image-contains (sources_of l.edges) w y)) in
             port_same w e.0 e.1 (member-Contains (e.0.sources ++ e.0.targets) w (member-left e.0.sources e.0.targets w e.2))
 
+  module _ (edges wires : List ℕ) (firsts : AreThose (IsFirstEdge l) edges) (bares : AreThose (IsBare l) wires)
+      (edges_agree : (k : ℕ) → Member k edges → SameEdge k) (wires_agree : (w : ℕ) → Member w wires → SameWire w) where
+    edge_same : (k : ℕ) → k < length l.edges → SameEdge k
+    edge_same k h = edges_same_below edges firsts (length l.edges) (λ j m u. edges_agree j m) (suc k) k (omega arith) h h
+
+    wire_same : (w : ℕ) → w < length l.wires → SameWire w
+    wire_same w h = wires_same_below edge_same wires bares (length l.wires) (λ v m u. wires_agree v m) w h h
+
     images_same : o ≡ p
-    unfolding SameEdge SameWire
     images_same = ap₂ (λ x y. record { edges = x; wires = y })
-        (same-places o.edges p.edges (a.edge_count ∙ sym b.edge_count) (λ i h. edge_same (suc i) i (omega arith) (subst (λ n. i < n) a.edge_count h)))
+        (same-places o.edges p.edges (a.edge_count ∙ sym b.edge_count) (λ i h. edge_same i (subst (λ n. i < n) a.edge_count h)))
         (same-places o.wires p.wires (a.wire_count ∙ sym b.wire_count) (λ i h. wire_same i (subst (λ n. i < n) a.wire_count h)))
 
   -- occurrences with the same images of the anchors are the same
-  pub anchors_tell : (anchors : List Anchor) → AreAnchors l anchors → map (image_at o) anchors ≡ map (image_at p) anchors → o ≡ p
-  unfolding SameEdge SameWire
+  pub anchors_tell : (anchors : List Anchor) → AreAnchors l anchors → map (image_of o) anchors ≡ map (image_of p) anchors → o ≡ p
   anchors_tell anchors t q = images_same t.edges t.wires t.first_edges t.bare_wires
-      (λ k m. same-on (image_at o) (image_at p) anchors (AtEdge k) q
+      (λ k m. same-on (image_of o) (image_of p) anchors (AtEdge k) q
       (subst (Member (AtEdge k)) (sym t.is) (member-left (map AtEdge t.edges) (map AtWire t.wires) (AtEdge k) (member-map AtEdge t.edges k m))))
-      (λ w m. same-on (image_at o) (image_at p) anchors (AtWire w) q
+      (λ w m. same-on (image_of o) (image_of p) anchors (AtWire w) q
       (subst (Member (AtWire w)) (sym t.is) (member-right (map AtEdge t.edges) (map AtWire t.wires) (AtWire w) (member-map AtWire t.wires w m))))
 
 -- ## the choices of images for the anchors
@@ -214,7 +217,7 @@ choices-member l g (a ∷ anchors) (n ∷ counts) t f h =
     (member-map (λ c. f a ∷ c) (choices l g anchors counts t.1) (map f anchors) (choices-member l g anchors counts t.1 f h.1))
 
 -- an anchor begins where the occurrence takes it
-begins : (l g : PlainGraph) (o : Occurrence) → IsOccurrence l g o.edges o.wires → (a : Anchor) → IsThere l a → MayBegin l g a (image_at o a)
+pub begins : (l g : PlainGraph) (o : Occurrence) → IsOccurrence l g o.edges o.wires → (a : Anchor) → IsThere l a → MayBegin l g a (image_of o a)
 begins l g o q (AtEdge k) h =
     let e = found l.edges k h in (
       e.0,
@@ -233,18 +236,18 @@ pub occurrences_bounded : (l : Parts) (g : PlainGraph) (counts : List ℕ) (os :
     → AreOccurrences l.graph g os → length os ≤ product counts
 occurrences_bounded l g counts os pattern v t are =
     subst (λ n. length os ≤ n) (length-choices l.graph g l.anchors counts t)
-    (pigeonhole (λ o. map (image_at o) l.anchors) os (choices l.graph g l.anchors counts t)
-    (Sorted-with IsBefore (λ a b. ¬ (map (image_at a) l.anchors ≡ map (image_at b) l.anchors)) (λ o. IsOccurrence l.graph g o.edges o.wires) differ os
+    (pigeonhole (λ o. map (image_of o) l.anchors) os (choices l.graph g l.anchors counts t)
+    (Sorted-with IsBefore (λ a b. ¬ (map (image_of a) l.anchors ≡ map (image_of b) l.anchors)) (λ o. IsOccurrence l.graph g o.edges o.wires) differ os
     (all-member (λ o. IsOccurrence l.graph g o.edges o.wires) os occurs) (get-sorted IsBefore os are.ordered))
-    (λ o m. choices-member l.graph g l.anchors counts t (image_at o)
-    (all-get (λ a. MayBegin l.graph g a (image_at o a)) l.anchors
+    (λ o m. choices-member l.graph g l.anchors counts t (image_of o)
+    (all-get (λ a. MayBegin l.graph g a (image_of o a)) l.anchors
     (λ i a e. begins l.graph g o (occurs o m) a (anchor-there l.graph l.anchors pattern.anchors i a e)))))
   where
     occurs : (o : Occurrence) → Member o os → IsOccurrence l.graph g o.edges o.wires
     occurs o m = let f = are.members o in f.0 (member-Contains os o m)
 
     differ : (a b : Occurrence) → IsOccurrence l.graph g a.edges a.wires → IsOccurrence l.graph g b.edges b.wires → IsBefore a b
-        → ¬ (map (image_at a) l.anchors ≡ map (image_at b) l.anchors)
+        → ¬ (map (image_of a) l.anchors ≡ map (image_of b) l.anchors)
     differ a b p q r e =
         let s : IsBefore b b = subst (λ z. IsBefore z b) (anchors_tell l.graph g v a b p q l.anchors pattern.anchors e) r in
         less-anti (b.edges ++ b.wires) (b.edges ++ b.wires) s s

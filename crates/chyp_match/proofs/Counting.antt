@@ -82,7 +82,8 @@ anchor-there g anchors t k a at = go (member-split (map Edge t.edges) (map Wire 
 
 -- ## the product
 
-pub counts-push : (l g : PlainGraph) (others : List Anchor) (ns : List ℕ) (a : Anchor) (n : ℕ) → AreCounts l g others ns → IsCount (MayBegin l g a) n → AreCounts l g (others ++ a ∷ []) (ns ++ n ∷ [])
+pub counts-push : (l g : PlainGraph) (others : List Anchor) (ns : List ℕ) (a : Anchor) (n : ℕ) → AreCounts l g others ns → IsCount (MayBegin l g a) n
+    → AreCounts l g (others ++ a ∷ []) (ns ++ n ∷ [])
 counts-push l g [] [] a n t c = (c, tt)
 counts-push l g [] (m ∷ ns) a n t c = absurd t
 counts-push l g (b ∷ others) [] a n t c = absurd t

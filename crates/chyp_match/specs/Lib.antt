@@ -1,1 +1,13 @@
 pub mod Occurring
+pub mod Embedding
+pub mod Following
+pub mod Lists
+pub mod Listed
+pub mod Levels
+pub mod Search
+pub mod Row
+pub mod Closure
+pub mod Convex
+pub mod Matcher
+pub mod View
+pub mod Lending

@@ -29,4 +29,5 @@ returns-then-begin_alike c =
     let alike : BeginAlike c.args.pattern.now.graph c.anchor-2.result c.anchor-3.result =
     subst (λ g. BeginAlike g c.anchor-2.result c.anchor-3.result) c.graph-whole.ensures.graph (c.if-begin_alike.ensures refl) in
     known-next c.args.pattern.now c.args.graph.now c.args.k c.args.before c.anchor-3.result c.anchor-3.ensures
-    (alike-count c.args.pattern.now.graph c.args.graph.now c.anchor-2.result c.anchor-3.result c.args.before alike (c.requires.known (c.args.k - 1) c.anchor-2.result (omega arith) c.anchor-2.ensures))
+    (alike-count c.args.pattern.now.graph c.args.graph.now c.anchor-2.result c.anchor-3.result c.args.before alike
+    (c.requires.known (c.args.k - 1) c.anchor-2.result (omega arith) c.anchor-2.ensures))

@@ -18,4 +18,5 @@ loop-k-preserved c =
 pub returns : goal.returns
 returns c =
     let end : c.loop-k.k ≡ c.edge_count-k-end.result = omega (arith, c.loop-k-test.false, c.loop-k.auto.k-end) in
-    count-end (IsNamed c.args.graph.now c.args.name.now) c.loop-k.k c.loop-k.count (named-below c.args.graph.now c.args.name.now c.loop-k.k (end ∙ c.edge_count-k-end.ensures.count)) c.loop-k.invariant
+    count-end (IsNamed c.args.graph.now c.args.name.now) c.loop-k.k c.loop-k.count (named-below c.args.graph.now c.args.name.now c.loop-k.k (end ∙ c.edge_count-k-end.ensures.count))
+    c.loop-k.invariant

@@ -18,4 +18,5 @@ loop-w-preserved c =
 pub returns : goal.returns
 returns c =
     let end : c.loop-w.w ≡ c.wire_count-w-end.result = omega (arith, c.loop-w-test.false, c.loop-w.auto.w-end) in
-    count-end (IsOfSort c.args.graph.now c.args.sort.now) c.loop-w.w c.loop-w.count (sort-below c.args.graph.now c.args.sort.now c.loop-w.w (end ∙ c.wire_count-w-end.ensures.count)) c.loop-w.invariant
+    count-end (IsOfSort c.args.graph.now c.args.sort.now) c.loop-w.w c.loop-w.count (sort-below c.args.graph.now c.args.sort.now c.loop-w.w (end ∙ c.wire_count-w-end.ensures.count))
+    c.loop-w.invariant
