@@ -28,7 +28,7 @@ named_token _ = 0
 abbrev pub line_of : List ℕ → List Token → Verdict → List ℕ
 line_of text statement verdict =
     report_line (place_of text (token_start statement 0)) (kind_text statement) (shown_name text statement) (Some verdict)
-        (place_of text (token_start statement (named_token verdict)))
+    (place_of text (token_start statement (named_token verdict)))
 
 -- the lines of some statements with their verdicts, in order
 abbrev pub lines_of : List ℕ → List Token → List Chunk → List Verdict → List ℕ

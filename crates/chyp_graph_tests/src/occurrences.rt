@@ -86,7 +86,12 @@ fn patterns_have_occurrences(rt: HostRuntime) -> Result<(), Fail> {
     check(alloc, "f h *", "f g * h *", &[(&[0, 2], &[0, 1, 4, 5])])?;
     check(alloc, "id", "f", &[(&[], &[0]), (&[], &[1])])?;
     check(alloc, "f id *", "f f ;", &[])?;
-    check(alloc, "f f ;", "f f ; f ;", &[(&[0, 1], &[0, 1, 2]), (&[1, 2], &[1, 2, 3])])?;
+    check(
+        alloc,
+        "f f ;",
+        "f f ; f ;",
+        &[(&[0, 1], &[0, 1, 2]), (&[1, 2], &[1, 2, 3])],
+    )?;
     let scalars: [Images; 6] = [
         (&[0, 1], &[]),
         (&[0, 2], &[]),
@@ -102,7 +107,10 @@ fn patterns_have_occurrences(rt: HostRuntime) -> Result<(), Fail> {
 fn scalars_have_as_many_occurrences_as_there_are_arrangements(rt: HostRuntime) -> Result<(), Fail> {
     let alloc = rt.alloc();
     let pattern = Pattern::of(graph(alloc, "s s * s * s *")?)?;
-    let target = graph(alloc, "s s * s * s * s * s * s * s * s * s * s * s * s * s * s * s *")?;
+    let target = graph(
+        alloc,
+        "s s * s * s * s * s * s * s * s * s * s * s * s * s * s * s *",
+    )?;
     let listed = Listed::of(alloc, &target)?;
     let mut occurrences = Occurrences::new(alloc, &pattern, &listed)?;
     let mut count: u32 = 0;

@@ -98,7 +98,8 @@ box_text b = frame_text b ++ (caption_text b ++ (flat_map escaped (label_of b.na
 
 abbrev pub head_text : Picture → List ℕ
 head_text p =
-    joined (codes "<svg xmlns=\"http://www.w3.org/2000/svg\" viewBox=\"0 0 " ∷ decimal p.width ∷ codes " " ∷ decimal p.height ∷ codes "\">\n" ∷ [])
+    joined (codes "<svg xmlns=\"http://www.w3.org/2000/svg\" viewBox=\"0 0 " ∷ decimal p.width ∷ codes " " ∷ decimal p.height
+    ∷ codes "\">\n" ∷ [])
 
 -- the text of a picture: wires first, and boxes over them
 abbrev pub drawing_of : Picture → List ℕ
