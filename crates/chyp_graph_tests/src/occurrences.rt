@@ -116,7 +116,7 @@ fn scalars_have_as_many_occurrences_as_there_are_arrangements(rt: HostRuntime) -
     let mut count: u32 = 0;
     for _ in 0..65_536u32 {
         if has_more(&mut occurrences) {
-            count += 1;
+            count = count.saturating_add(1);
         }
     }
     if count == 43_680 {
