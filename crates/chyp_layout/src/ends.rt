@@ -10,11 +10,11 @@ use std::alloc::Global;
 
 /// The two ends of a wire.
 #[derive(Clone, Copy, Debug)]
-pub(crate) struct Ends {
+pub struct Ends {
     /// The input or the target of an edge that it is.
-    pub(crate) from: End,
+    pub from: End,
     /// The output or the source of an edge that it is.
-    pub(crate) to: End,
+    pub to: End,
 }
 
 /// The two ends of each wire.

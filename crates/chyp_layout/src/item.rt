@@ -3,7 +3,7 @@ use chyp_graph::{EdgeId, WireId};
 
 /// What stands in a column.
 #[derive(Clone, Copy, Debug, PartialEq, Eq)]
-pub(crate) enum Item {
+pub enum Item {
     /// The box of an edge.
     Box(EdgeId),
     /// A wire that begins, bends or ends there, beside the boxes.

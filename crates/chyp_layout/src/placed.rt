@@ -4,9 +4,9 @@ use crate::spot::Spot;
 
 /// An item, and where it stands.
 #[derive(Clone, Copy, Debug)]
-pub(crate) struct Placed {
+pub struct Placed {
     /// The item.
-    pub(crate) item: Item,
+    pub item: Item,
     /// Where it stands.
-    pub(crate) spot: Spot,
+    pub spot: Spot,
 }

@@ -8,7 +8,7 @@ use std::slice;
 
 /// A side of a column.
 #[derive(Clone, Copy, Debug, PartialEq, Eq)]
-pub(crate) enum Side {
+pub enum Side {
     /// The side of the inputs.
     Left,
     /// The side of the outputs.

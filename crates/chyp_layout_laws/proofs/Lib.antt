@@ -1,0 +1,9 @@
+pub mod Orders
+pub mod Standing
+pub mod Layering
+pub mod Overlap
+pub mod Bends
+pub mod Lines
+pub mod Low
+pub mod Whole
+pub mod Reading
