@@ -12,7 +12,7 @@ use Rattle.chyp_picture.specs.declared.end.End.{End}
 use Rattle.chyp_picture.specs.declared.end.End.TheVariants.{Input, Output, Port}
 use Rattle.chyp_picture.specs.declared.picture.Picture.{Picture}
 use Rattle.chyp_layout.specs.Columns.{bend_count, end_column, greatest, point_count}
-use Rattle.chyp_layout.specs.Crossings.{HasBoxes}
+use Rattle.chyp_picture.specs.Crossings.{HasBoxes}
 use Rattle.chyp_layout.specs.Ends.{from_of, to_of}
 use Rattle.chyp_layout.specs.Order.{bends_in, boxes_in, first_order, is_between}
 use Rattle.chyp_layout.specs.PictureOf.{IsPortOn, box_of, fewest, four_sweeps, line_of, orders_after, picture_in}

@@ -1,16 +1,11 @@
 -- The pieces of a line, as they are gathered from gap to gap.
 use Rattle.std.specs.Prelude.{ℕ, ◌+◌, ◌-◌, List, length, min}
-use Rattle.chyp_picture.specs.Crossings.{HasBox, end_after}
+use Rattle.chyp_picture.specs.Crossings.{end_after}
 use Rattle.chyp_picture.specs.Picture.{column_of}
 use Rattle.chyp_picture.specs.declared.line.Line.{Line}
 use Rattle.chyp_picture.specs.declared.picture.Picture.{Picture}
 use Rattle.chyp_picture.specs.declared.piece.Piece.{Piece}
 use Rattle.chyp_layout.specs.Order.{AreExtended}
-
--- where an end of the line is a port, its box is there
-pub record HasBoxes (p : Picture) (l : Line) : Type 0 where
-  pub from : HasBox p l.from
-  pub to : HasBox p l.to
 
 -- the piece of the line between the column c and the next
 abbrev pub piece_from : Picture → Line → ℕ → Piece

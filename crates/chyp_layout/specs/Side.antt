@@ -1,6 +1,7 @@
 -- The wires that leave the items of a column on its two sides.
 use Rattle.std.specs.Prelude.{ℕ, ◌<◌, ◌≤◌, All, List, [], ◌∷◌, map, length, Option, Some, None, slice_get}
 use Rattle.chyp_graph.specs.PlainGraph.{Edge, PlainGraph}
+use Rattle.chyp_picture.specs.Limits.{most_points}
 use Rattle.chyp_layout.specs.declared.item.Item.{Item}
 use Rattle.chyp_layout.specs.declared.item.Item.TheVariants.{Box, Wire}
 use Rattle.chyp_layout.specs.declared.side.Side.{Side}
@@ -18,7 +19,7 @@ IsItem g (Wire w) = w < length g.wires
 -- items of a column of a picture that is not too big
 pub record AreItems (g : PlainGraph) (items : List Item) : Type 0 where
   pub each : All (IsItem g) items
-  pub few : length items ≤ 65536
+  pub few : length items ≤ most_points
 
 -- sources are on the left of a box, targets on its right
 abbrev pub ports_on : Side → Option Edge → List ℕ

@@ -2,12 +2,12 @@
 ghost use Rattle.std.specs.Prelude.{◌≡◌, ◌+◌, ◌<◌, ◌≤◌, ◌^◌, [], All, IfOk, length, map, sum_by};
 ghost use Rattle.std.proofs.Common.{replicate};
 ghost use Rattle.std.specs.List.{range_with_len};
-ghost use Rattle.chyp_picture.specs.Crossings.{HasBox, crossing_number, crossings_of, end_after, end_of, pieces_between};
-ghost use Rattle.chyp_layout.specs.Crossings.{ArePassed, HasBoxes};
+ghost use Rattle.chyp_picture.specs.Crossings.{HasBoxes, crossing_number, crossings_of, pieces_between};
+ghost use Rattle.chyp_layout.specs.Crossings.{ArePassed};
 
 use crate::gap::Gap;
 use chyp_base::NoMemory;
-use chyp_picture::{End, Line, Picture, Piece, PieceEnd, column, crossing_count};
+use chyp_picture::{Line, Picture, column, crossing_count, piece_after};
 use std::alloc::Global;
 
 /// How many crossings the picture has. It takes n log n steps for the n pieces of its wires.
@@ -67,50 +67,7 @@ fn push_pieces(gaps: &mut Vec<Gap>, picture: &Picture, line: &Line) -> Result<()
     let end = (column(picture, line.to) as usize).min(gaps.len());
     for at in start..end {
         let gap = &mut gaps[at];
-        gap.push(piece(picture, line, at - start))?;
+        gap.push(piece_after(picture, line, at - start))?;
     }
     Ok(())
-}
-
-/// The piece of a line that begins so many columns after its start.
-fn piece(picture: &Picture, line: &Line, steps: usize) -> Piece
-    requires boxes { HasBoxes picture.now line.now }
-    requires few { steps < 2 ^ 63 }
-    ensures { result ≡ record { left = end_after picture.now line.now steps; right = end_after picture.now line.now (steps + 1) } }
-{
-    Piece {
-        left: end_behind(picture, line, steps),
-        right: end_behind(picture, line, steps + 1),
-    }
-}
-
-/// Where a line meets the column that stands so many columns after its start.
-fn end_behind(picture: &Picture, line: &Line, steps: usize) -> PieceEnd
-    requires { HasBoxes picture.now line.now }
-    ensures { result ≡ end_after picture.now line.now steps }
-{
-    if steps == 0 {
-        return meeting(picture, line.from);
-    }
-    match line.bends.as_slice().get(steps - 1) {
-        Some(bend) => PieceEnd {
-            position: bend.place,
-            port: 0,
-        },
-        None => meeting(picture, line.to),
-    }
-}
-
-/// Where an end of a line meets its column.
-fn meeting(picture: &Picture, end: End) -> PieceEnd
-    requires { HasBox picture.now end }
-    ensures { result ≡ end_of picture.now end }
-{
-    match end {
-        End::Input(position) | End::Output(position) => PieceEnd { position, port: 0 },
-        End::Port { box_index, port } => PieceEnd {
-            position: picture.boxes.as_slice()[box_index as usize].place,
-            port,
-        },
-    }
 }

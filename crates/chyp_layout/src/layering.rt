@@ -1,6 +1,7 @@
 // The picture of a graph.
 ghost use Rattle.std.specs.Prelude.{◌≡◌, ◌<◌, ◌≤◌, ◌^◌, All, IfErr, IfOk, length};
 ghost use Rattle.chyp_picture.specs.Crossings.{crossings_of};
+ghost use Rattle.chyp_picture.specs.Limits.{most_points};
 ghost use Rattle.chyp_layout.specs.Ends.{ends_of};
 ghost use Rattle.chyp_layout.specs.Layout.{IsCause};
 ghost use Rattle.chyp_layout.specs.PictureOf.{best_after, four_sweeps, picture_in, picture_of, points_of};
@@ -19,11 +20,8 @@ use crate::side::Side;
 use crate::sweep::sweep;
 use chyp_base::NoMemory;
 use chyp_graph::Graph;
-use chyp_picture::Picture;
+use chyp_picture::{MOST_POINTS, Picture};
 use std::alloc::Global;
-
-/// The greatest number of boxes and bends of a picture.
-const MOST_POINTS: u64 = 65_536;
 
 /// The sides on which the sweeps have the neighbours, in order.
 const SWEEPS: [Side; 4] = [Side::Left, Side::Right, Side::Left, Side::Right];
@@ -33,11 +31,11 @@ const SWEEPS: [Side; 4] = [Side::Left, Side::Right, Side::Left, Side::Right];
 ///
 /// # Errors
 ///
-/// `TooBig` exactly where the picture has more than 65,536 boxes and bends, with their number; no
+/// `TooBig` exactly where the picture has more than [`MOST_POINTS`] boxes and bends, with their number; no
 /// picture is begun then. `NoMemory` where the picture can't be kept.
 pub fn layout(alloc: Global, graph: &Graph) -> Result<Picture, LayoutError>
     ensures picture { IfOk result (λ picture. picture ≡ picture_of graph.now) }
-    ensures fits { IfOk result (λ _. points_of graph.now ≤ 65536) }
+    ensures fits { IfOk result (λ _. points_of graph.now ≤ most_points) }
     ensures cause { IfErr result (IsCause (points_of graph.now)) }
 {
     is_bounded(graph);

@@ -5,7 +5,7 @@ use thiserror::Error;
 /// Why a graph gets no picture.
 #[derive(Clone, Copy, Debug, PartialEq, Eq, Error)]
 pub enum LayoutError {
-    /// The picture has more than 65,536 boxes and bends.
+    /// The picture has more than `MOST_POINTS` boxes and bends.
     #[error("{points} boxes and bends are too many for a picture")]
     TooBig {
         /// How many boxes and bends it has.

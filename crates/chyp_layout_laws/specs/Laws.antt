@@ -3,6 +3,7 @@ use Rattle.std.specs.Prelude.{ℕ, ◌≡◌, ◌≢◌, ◌⊎◌, ◌+◌, ◌
 use Rattle.chyp_graph.specs.PlainGraph.{Edge, PlainGraph}
 use Rattle.chyp_graph.specs.Validity.{IsValid}
 use Rattle.chyp_picture.specs.Crossings.{crossings_of}
+use Rattle.chyp_picture.specs.Limits.{longest_name, most_points}
 use Rattle.chyp_picture.specs.Picture.{IsDrawn, IsWhole, bend_count, column_of}
 use Rattle.chyp_picture.specs.declared.box_at.BoxAt.{BoxAt}
 use Rattle.chyp_picture.specs.declared.picture.Picture.{Picture}
@@ -54,12 +55,12 @@ LinesPassAllColumns = (g : PlainGraph) → IsValid g → All (IsDrawn (picture_o
 abbrev pub PointsAreCounted : Type 0
 PointsAreCounted = (g : PlainGraph) → length (picture_of g).boxes + bend_count (picture_of g).lines ≡ points_of g
 
--- the graph is valid, it has at most 65,536 boxes and bends and fewer than 2 ^ 31 wires, and names have at most 2 ^ 32 bytes
+-- the graph is valid, it has not too many boxes and bends and fewer than 2 ^ 31 wires, and no name is too long
 pub record IsDrawable (g : PlainGraph) : Type 0 where
   pub valid : IsValid g
-  pub few_points : points_of g ≤ 65536
+  pub few_points : points_of g ≤ most_points
   pub few_wires : length g.wires < 2 ^ 31
-  pub names : All (λ e. length e.name ≤ 2 ^ 32) g.edges
+  pub names : All (λ e. length e.name ≤ longest_name) g.edges
 
 -- the picture of such a graph can be drawn
 abbrev pub PicturesAreWhole : Type 0

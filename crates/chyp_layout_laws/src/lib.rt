@@ -6,7 +6,8 @@
 //! a given graph.
 #![tactic(auto)]
 
-ghost use Rattle.std.specs.Prelude.{◌^◌, ◌≤◌, All, length};
+ghost use Rattle.std.specs.Prelude.{◌≤◌, All, length};
+ghost use Rattle.chyp_picture.specs.Limits.{longest_name, most_points};
 ghost use Rattle.chyp_picture.specs.Picture.{IsWhole};
 ghost use Rattle.chyp_layout.specs.PictureOf.{picture_of, points_of};
 ghost use Rattle.chyp_layout_laws.specs.Laws.{BoxesAreApart, BoxesFollowTheirSources, BoxesStandInColumns, CrossingsAreFew, LinesPassAllColumns, PicturesAreReadBack, PicturesAreWhole, PicturesTellGraphsApart, PointsAreCounted};
@@ -39,16 +40,16 @@ pub fn lines_pass_all_columns()
     ensures points { PointsAreCounted }
 {}
 
-/// Over all valid graphs with at most 65,536 boxes and bends, fewer than 2^31 wires and names of at
-/// most 2^32 bytes: the picture is whole, as `chyp_picture` and what draws it want it.
+/// Over all valid graphs with at most `MOST_POINTS` boxes and bends, fewer than 2^31 wires and names of at
+/// most `LONGEST_NAME` bytes: the picture is whole, as `chyp_picture` and what draws it want it.
 pub fn pictures_are_whole()
     ensures { PicturesAreWhole }
 {}
 
-/// What `layout` gives is whole where no name of the graph has more than 2^32 bytes.
+/// What `layout` gives is whole where no name of the graph has more than `LONGEST_NAME` bytes.
 pub fn picture_is_whole(graph: &Graph)
-    requires few { points_of graph.now ≤ 65536 }
-    requires names { All (λ e. length e.name ≤ 2 ^ 32) graph.now.edges }
+    requires few { points_of graph.now ≤ most_points }
+    requires names { All (λ e. length e.name ≤ longest_name) graph.now.edges }
     ensures { IsWhole (picture_of graph.now) }
 {
     let _ = graph.inputs();

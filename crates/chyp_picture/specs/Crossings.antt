@@ -90,3 +90,8 @@ abbrev pub HasBox : Picture → End → Type 0
 HasBox p (Input i) = Unit {0}
 HasBox p (Output i) = Unit {0}
 HasBox p (Port b i) = b < length p.boxes
+
+-- where an end of the line is a port, its box is there
+pub record HasBoxes (p : Picture) (l : Line) : Type 0 where
+  pub from : HasBox p l.from
+  pub to : HasBox p l.to

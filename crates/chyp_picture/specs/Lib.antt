@@ -1,2 +1,3 @@
 pub mod Crossings
+pub mod Limits
 pub mod Picture

@@ -1,5 +1,6 @@
 -- Whole pictures: what a list of boxes and a list of lines must be to be drawn.
-use Rattle.std.specs.Prelude.{◌≡◌, ℕ, ◌+◌, ◌^◌, ◌<◌, ◌≤◌, List, map, length, sum_by, All, slice_get, slice_index, Option, None, Some}
+use Rattle.std.specs.Prelude.{◌≡◌, ℕ, ◌+◌, ◌<◌, ◌≤◌, List, map, length, sum_by, All, slice_get, slice_index, Option, None, Some}
+use Rattle.chyp_picture.specs.Limits.{height_bound, longest_name, most_lines, most_points}
 use Rattle.chyp_picture.specs.declared.box_at.BoxAt.{BoxAt}
 use Rattle.chyp_picture.specs.declared.end.End.{End}
 use Rattle.chyp_picture.specs.declared.end.End.TheVariants.{Input, Output, Port}
@@ -41,29 +42,29 @@ pub record IsDrawn (p : Picture) (l : Line) : Type 0 where
   pub bends : (k : ℕ) → k < length l.bends → slice_index (bend_columns l) k ≡ column_of p l.from + 1 + k
   pub last : column_of p l.to ≡ column_of p l.from + 1 + length l.bends
 
--- the numbers from which the heights of a line are drawn are below 2 ^ 40
+-- the numbers from which the heights of a line are drawn are below their bound
 pub record IsLowLine (l : Line) : Type 0 where
-  pub from : l.y_from < 2 ^ 40
-  pub to : l.y_to < 2 ^ 40
-  pub bends : All (λ b. b.y < 2 ^ 40) l.bends
+  pub from : l.y_from < height_bound
+  pub to : l.y_to < height_bound
+  pub bends : All (λ b. b.y < height_bound) l.bends
 
--- a box's name has at most 2 ^ 32 bytes, and the numbers from which it is drawn are below 2 ^ 40
+-- a box's name is not too long, and the numbers from which it is drawn are below their bound
 pub record IsLowBox (b : BoxAt) : Type 0 where
-  pub name : length b.name ≤ 2 ^ 32
-  pub top : b.top < 2 ^ 40
-  pub height : b.height < 2 ^ 40
+  pub name : length b.name ≤ longest_name
+  pub top : b.top < height_bound
+  pub height : b.height < height_bound
 
 -- how many bends the lines have together
 abbrev pub bend_count : List Line → ℕ
 bend_count ls = sum_by (λ l. length l.bends) ls
 
--- the picture is whole: each line leads from column to column, there are at most 65,536 boxes and bends and at most 2 ^ 32
--- lines, names have at most 2 ^ 32 bytes, and numbers are below 2 ^ 40 (those that are no heights are below 2 ^ 32)
+-- the picture is whole: each line leads from column to column, there are not too many boxes and bends nor lines, no name is
+-- too long, and heights are below their bound (numbers that are no heights are below 2 ^ 32)
 pub record IsWhole (p : Picture) : Type 0 where
   pub drawn : All (IsDrawn p) p.lines
-  pub few_points : length p.boxes + bend_count p.lines ≤ 65536
-  pub few_lines : length p.lines ≤ 2 ^ 32
+  pub few_points : length p.boxes + bend_count p.lines ≤ most_points
+  pub few_lines : length p.lines ≤ most_lines
   pub low_lines : All IsLowLine p.lines
   pub low_boxes : All IsLowBox p.boxes
-  pub width : p.width < 2 ^ 40
-  pub height : p.height < 2 ^ 40
+  pub width : p.width < height_bound
+  pub height : p.height < height_bound

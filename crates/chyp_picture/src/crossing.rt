@@ -1,6 +1,6 @@
 // How many wire pieces cross.
 ghost use Rattle.std.specs.Prelude.{◌≡◌, ◌+◌, ◌-◌, ◌^◌, ◌<◌, ◌≤◌, All, IfOk, length, map, sum_by};
-ghost use Rattle.chyp_picture.specs.Crossings.{crosses, crossing_number, crossings_of, end_after, end_of, HasBox, line_crossings};
+ghost use Rattle.chyp_picture.specs.Crossings.{crosses, crossing_number, crossings_of, end_after, end_of, HasBox, HasBoxes, line_crossings};
 ghost use Rattle.chyp_picture.specs.Picture.{IsDrawn, IsWhole, column_of};
 
 use crate::inversions::sort_and_count;
@@ -66,7 +66,15 @@ fn piece_from(picture: &Picture, line: &Line, at: u64) -> Piece
     ensures left { result.left ≡ end_after picture.now line.now (at - column_of picture.now line.now.from) }
     ensures right { result.right ≡ end_after picture.now line.now (at - column_of picture.now line.now.from + 1) }
 {
-    let steps = (at - column(picture, line.from)) as usize;
+    piece_after(picture, line, (at - column(picture, line.from)) as usize)
+}
+
+/// The piece of a line between the column that stands so many columns after its start and the next.
+pub fn piece_after(picture: &Picture, line: &Line, steps: usize) -> Piece
+    requires boxes { HasBoxes picture.now line.now }
+    requires few { steps < 2 ^ 63 }
+    ensures { result ≡ record { left = end_after picture.now line.now steps; right = end_after picture.now line.now (steps + 1) } }
+{
     Piece {
         left: end_behind(picture, line, steps),
         right: end_behind(picture, line, steps + 1),
@@ -75,8 +83,7 @@ fn piece_from(picture: &Picture, line: &Line, at: u64) -> Piece
 
 // Where a line meets the column that stands so many columns after its start.
 fn end_behind(picture: &Picture, line: &Line, steps: usize) -> PieceEnd
-    requires drawn { IsDrawn picture.now line.now }
-    requires within { steps ≤ length line.now.bends + 1 }
+    requires { HasBoxes picture.now line.now }
     ensures { result ≡ end_after picture.now line.now steps }
 {
     if steps == 0 {

@@ -3,9 +3,9 @@ ghost use Rattle.std.specs.Prelude.{◌≡◌, ◌+◌, ◌^◌, ◌<◌, ◌≤
 ghost use Rattle.chyp_picture.specs.Crossings.{HasBox};
 ghost use Rattle.chyp_picture.specs.Picture.{IsDrawn, IsGoal, IsLowBox, IsLowLine, IsStart, IsWhole, bend_count, column_of};
 
-use chyp_picture::{BoxAt, End, Line, Picture, Point, column};
-
-const MOST: u64 = 1 << 40;
+use chyp_picture::{
+    BoxAt, End, HEIGHT_BOUND, LONGEST_NAME, Line, MOST_LINES, MOST_POINTS, Picture, Point, column,
+};
 
 /// Whether the picture is whole; the calls on pictures may be made then.
 pub(crate) fn is_whole(picture: &Picture) -> bool
@@ -13,14 +13,14 @@ pub(crate) fn is_whole(picture: &Picture) -> bool
 {
     let lines = picture.lines.as_slice();
     let boxes = picture.boxes.as_slice();
-    boxes.len() <= 65536
-        && are_few(lines, 65536 - boxes.len())
-        && lines.len() <= 1 << 32
+    boxes.len() <= MOST_POINTS as usize
+        && are_few(lines, MOST_POINTS as usize - boxes.len())
+        && lines.len() <= MOST_LINES as usize
         && are_drawn(picture, lines)
         && are_low(lines)
         && are_low_boxes(boxes)
-        && picture.width < MOST
-        && picture.height < MOST
+        && picture.width < HEIGHT_BOUND
+        && picture.height < HEIGHT_BOUND
 }
 
 // Whether the lines have at most so many bends together.
@@ -101,7 +101,10 @@ fn are_low(lines: &[Line]) -> bool
     ensures { IsTrue result → All IsLowLine lines.now }
 {
     for line in lines {
-        if MOST <= line.y_from || MOST <= line.y_to || !are_low_bends(line.bends.as_slice()) {
+        if HEIGHT_BOUND <= line.y_from
+            || HEIGHT_BOUND <= line.y_to
+            || !are_low_bends(line.bends.as_slice())
+        {
             return false;
         }
     }
@@ -112,7 +115,7 @@ fn are_low_bends(bends: &[Point]) -> bool
     ensures { IsTrue result → All (λ b. b.y < 2 ^ 40) bends.now }
 {
     for bend in bends {
-        if MOST <= bend.y {
+        if HEIGHT_BOUND <= bend.y {
             return false;
         }
     }
@@ -124,7 +127,10 @@ fn are_low_boxes(boxes: &[BoxAt]) -> bool
     ensures { IsTrue result → All IsLowBox boxes.now }
 {
     for part in boxes {
-        if MOST <= part.top || MOST <= part.height || 1 << 32 < part.name.as_str().len() {
+        if HEIGHT_BOUND <= part.top
+            || HEIGHT_BOUND <= part.height
+            || (LONGEST_NAME as usize) < part.name.as_str().len()
+        {
             return false;
         }
     }

@@ -1,5 +1,6 @@
 // Paths of wires.
 ghost use Rattle.std.specs.Prelude.{◌≡◌, ◌<◌, ◌≤◌, ◌*◌, ◌^◌, ◌-◌, IfOk, length, map};
+ghost use Rattle.chyp_picture.specs.Limits.{most_points};
 ghost use Rattle.chyp_picture.specs.Picture.{IsDrawn};
 ghost use Rattle.chyp_svg.specs.Drawing.{bend_place, curves_text, move_text, path_text};
 ghost use Rattle.chyp_svg.specs.Drawing.{last_place};
@@ -67,7 +68,7 @@ fn write_bends<K: Sink>(from: Place, bends: &[Point], sink: &mut K) -> Result<Pl
 // How long the path of a line is.
 pub(crate) fn path_len(picture: &Picture, line: &Line) -> u64
     requires drawn { IsDrawn picture.now line.now }
-    requires few { length line.now.bends ≤ 65536 }
+    requires few { length line.now.bends ≤ most_points }
     ensures same { result ≡ length (path_text picture.now line.now) }
     ensures few { result ≤ 2 ^ 24 }
 {
@@ -87,7 +88,7 @@ fn move_len(from: Place) -> u64
 // How long the pieces as far as the last bend are, and where that is.
 fn bends_len(from: Place, bends: &[Point]) -> (u64, Place)
     requires low { from.x < 2 ^ 60 }
-    requires few { length bends.now ≤ 65536 }
+    requires few { length bends.now ≤ most_points }
     ensures same { result.0 ≡ length (curves_text from (map bend_place bends.now)) }
     ensures few { result.0 ≤ 128 * length bends.now }
     ensures last { result.1 ≡ last_place from (map bend_place bends.now) }

@@ -1,5 +1,6 @@
 // The text of a picture.
 ghost use Rattle.std.specs.Prelude.{◌≡◌, ◌≤◌, ◌<◌, ◌*◌, ◌-◌, ◌^◌, All, flat_map, length};
+ghost use Rattle.chyp_picture.specs.Limits.{most_points};
 ghost use Rattle.chyp_picture.specs.Picture.{IsDrawn, IsLowBox, IsWhole};
 ghost use Rattle.chyp_svg.specs.Drawing.{box_text, drawing_of, head_text, path_text};
 ghost use Rattle.chyp_write.specs.Writing.{Writes};
@@ -95,7 +96,7 @@ fn head_len(picture: &Picture) -> u64
 // How long the paths of the wires are together.
 fn lines_len(picture: &Picture, lines: &[Line]) -> u64
     requires drawn { All (IsDrawn picture.now) lines.now }
-    requires few_bends { All (λ line. length line.bends ≤ 65536) lines.now }
+    requires few_bends { All (λ line. length line.bends ≤ most_points) lines.now }
     requires few_lines { length lines.now ≤ 2 ^ 32 }
     ensures same { result ≡ length (flat_map (path_text picture.now) lines.now) }
     ensures few { result ≤ 2 ^ 24 * length lines.now }
@@ -110,7 +111,7 @@ fn lines_len(picture: &Picture, lines: &[Line]) -> u64
 // How long the boxes are together.
 fn boxes_len(boxes: &[BoxAt]) -> u64
     requires low { All IsLowBox boxes.now }
-    requires few { length boxes.now ≤ 65536 }
+    requires few { length boxes.now ≤ most_points }
     ensures same { result ≡ length (flat_map box_text boxes.now) }
     ensures few { result ≤ 2 ^ 36 * length boxes.now }
 {

@@ -1,6 +1,6 @@
 use Rattle.std.proofs.Common.{◌∙◌, All, ap, arith, length, subst, sym}
 use Rattle.chyp_picture.specs.declared.picture.Picture.{Picture}
-use Rattle.chyp_layout.specs.Crossings.{HasBoxes}
+use Rattle.chyp_picture.specs.Crossings.{HasBoxes}
 use Rattle.chyp_layout.proofs.Best.{boxes-there, lines-few}
 use Rattle.chyp_layout.proofs.layering.drawn.Goals as goal
 
