@@ -1,7 +1,8 @@
 -- Drawing a generator and a permutation; and how many wires a term draws.
-use Rattle.std.proofs.Common.{ℕ, zero, suc, ◌+◌, ◌<◌, ◌≤◌, ◌≡◌, Bool, true, false, cond, List, [], ◌∷◌, ◌++◌, map, length, filter, take, drop, refl, sym, ◌∙◌, ap, ap₂, subst, arith}
+use Rattle.std.proofs.Common.{ℕ, zero, suc, ◌+◌, ◌-◌, ◌<◌, ◌≤◌, ◌≡◌, Bool, true, false, cond, List, [], ◌∷◌, ◌++◌, map, length, filter, take, drop, refl, sym, ◌∙◌, ap, ap₂, subst, arith}
 use Rattle.std.proofs.Common.{append_assoc, append-nil, length-append, length-take, length-drop, zero-add, suc-add, slice_index, get_or}
 use Rattle.std.specs.List.{cons_option}
+use Rattle.std.proofs.Math.Seq.{drop-append_seam, take-length}
 use Rattle.std.proofs.lemmas.List.{length-map}
 use Rattle.chyp_base.specs.declared.sort.Sort.{Sort}
 use Rattle.chyp_term.specs.Morphism.{IsTyped, Morphism, beside, cod, generator, permutation, then}
@@ -210,8 +211,19 @@ pub pushed-item : {A : Type 0} (list items before after : List A) (i : ℕ) (x :
 pushed-item list items before after i x h e q r =
     r ∙ ap (λ l. l ++ x ∷ []) q ∙ append_assoc list (take i items) (x ∷ []) ∙ ap (λ l. list ++ l) (sym (take-suc items i x (get-item items i x h e)))
 
-pub pushed-number : (k i x : ℕ) (before after : List ℕ) → x ≡ k + i → before ≡ count_from k i → after ≡ before ++ x ∷ [] → after ≡ count_from k (i + 1)
-pushed-number k i x before after e q r = let l : suc i ≡ i + 1 = omega arith in r ∙ ap₂ (λ a b. a ++ b ∷ []) q e ∙ sym (count_from-push k i) ∙ ap (count_from k) l
+-- what was put behind a list
+pub put-behind : {A : Type 0} (list part whole : List A) (at : ℕ) → at ≡ length list → whole ≡ list ++ part → take (length whole - at) (drop at whole) ≡ part
+put-behind list part whole at e w =
+    let a = length-append list part in
+    let l : length whole ≡ length (list ++ part) = ap length w in
+    let n : length whole - at ≡ length part = omega arith in
+    ap₂ take n (ap₂ drop e w ∙ drop-append_seam list part) ∙ take-length part
+
+pub pushed-number : (k i x : ℕ) (list before after : List ℕ) → x ≡ k + i → before ≡ list ++ count_from k i → after ≡ before ++ x ∷ []
+    → after ≡ list ++ count_from k (i + 1)
+pushed-number k i x list before after e q r =
+    let l : suc i ≡ i + 1 = omega arith in
+    r ∙ ap₂ (λ a b. a ++ b ∷ []) q e ∙ append_assoc list (count_from k i) ((k + i) ∷ []) ∙ ap (λ n. list ++ n) (sym (count_from-push k i) ∙ ap (count_from k) l)
 
 pub length-grown : {A : Type 0} (list items before : List A) (i : ℕ) → i ≤ length items → before ≡ list ++ take i items → length before ≡ length list + i
 length-grown list items before i h e = let a = length-take i items in ap length e ∙ length-append list (take i items) ∙ omega arith

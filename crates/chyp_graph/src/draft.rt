@@ -8,7 +8,7 @@ ghost use Rattle.chyp_graph.specs.Composition.{beside_graph};
 ghost use Rattle.chyp_graph.specs.Draft.{IsFollowed, drawn};
 ghost use Rattle.chyp_graph.specs.GraphOf.{graph_of};
 
-use crate::{EdgePart, WireId, WireIds};
+use crate::{EdgePart, PortList, WireId};
 use chyp_base::{Name, NoMemory, Sort};
 use chyp_term::Term;
 use std::alloc::Global;
@@ -44,14 +44,16 @@ impl Draft {
     {
         match term {
             Term::Gen { name, dom, cod } => {
-                let sources = add_wires(&mut self.wires, dom.as_slice())?;
-                self.inputs.extend_from_slice(&sources)?;
+                let first = self.inputs.len();
+                add_wires(&mut self.wires, &mut self.inputs, dom.as_slice())?;
+                let alloc = *self.inputs.allocator();
+                let sources = PortList::from_slice(alloc, &self.inputs[first..])?;
                 self.add_edge(name, sources, cod.as_slice())
             }
             Term::Perm { sorts, perm } => {
-                let wires = add_wires(&mut self.wires, sorts.as_slice())?;
-                self.inputs.extend_from_slice(&wires)?;
-                push_at(&mut self.outputs, &wires, perm.places())
+                let first = self.inputs.len();
+                add_wires(&mut self.wires, &mut self.inputs, sorts.as_slice())?;
+                push_at(&mut self.outputs, &self.inputs[first..], perm.places())
             }
             Term::Seq(first, second) => {
                 let alloc = *self.outputs.allocator();
@@ -81,7 +83,7 @@ impl Draft {
             Term::Gen { name, dom, cod } => {
                 let end = at + dom.as_slice().len();
                 let alloc = *self.outputs.allocator();
-                let sources = Vec::from_slice(alloc, &live[at..end])?;
+                let sources = PortList::from_slice(alloc, &live[at..end])?;
                 self.add_edge(name, sources, cod.as_slice())?;
                 Ok(end)
             }
@@ -106,42 +108,52 @@ impl Draft {
     }
 
     /// Adds an edge with new target wires, which are outputs.
-    fn add_edge(
-        &mut self,
-        name: &Name,
-        sources: Vec<WireId>,
-        targets: &[Sort],
-    ) -> Result<(), NoMemory>
+    fn add_edge(&mut self, name: &Name, sources: PortList, targets: &[Sort]) -> Result<(), NoMemory>
         requires { length self.old.wires.items + length targets.now < 2 ^ 31 }
         ensures { IfOk result (λ _. let new = count_from (length self.old.wires.items) (length targets.now) in drawn self.new ≡ record {
           wires = self.old.wires.items ++ targets.now;
-          edges = self.old.edges.items ++ record { name = name.now; sources = sources.items; targets = new } ∷ [];
+          edges = self.old.edges.items ++ record { name = name.now; sources = sources; targets = new } ∷ [];
           inputs = self.old.inputs.items;
           outputs = self.old.outputs.items ++ new;
         }) }
     {
-        let targets = add_wires(&mut self.wires, targets)?;
-        self.outputs.extend_from_slice(&targets)?;
+        let first = self.outputs.len();
+        add_wires(&mut self.wires, &mut self.outputs, targets)?;
+        let alloc = *self.outputs.allocator();
         self.edges.push(EdgePart {
             name: name.share()?,
-            sources: WireIds::from_vec(sources),
-            targets: WireIds::from_vec(targets),
+            sources,
+            targets: PortList::from_slice(alloc, &self.outputs[first..])?,
         })?;
         Ok(())
     }
 }
 
+/// Adds wires of these sorts, and their numbers to a list.
+fn add_wires(
+    wires: &mut Vec<Sort>,
+    numbers: &mut Vec<WireId>,
+    sorts: &[Sort],
+) -> Result<(), NoMemory>
+    requires { length wires.old.items + length sorts.now < 2 ^ 31 }
+    ensures numbers { IfOk result (λ _. numbers.new.items ≡ numbers.old.items ++ count_from (length wires.old.items) (length sorts.now)) }
+    ensures wires { IfOk result (λ _. wires.new.items ≡ wires.old.items ++ sorts.now) }
+{
+    for sort in sorts {
+        numbers.push(WireId(wires.len() as u32))?;
+        wires.push(sort.share()?)?;
+    }
+    Ok(())
+}
+
 /// Adds wires of these sorts, and gives their numbers.
-pub(crate) fn add_wires(wires: &mut Vec<Sort>, sorts: &[Sort]) -> Result<Vec<WireId>, NoMemory>
+pub(crate) fn new_wires(wires: &mut Vec<Sort>, sorts: &[Sort]) -> Result<Vec<WireId>, NoMemory>
     requires { length wires.old.items + length sorts.now < 2 ^ 31 }
     ensures numbers { IfOk result (λ numbers. numbers.items ≡ count_from (length wires.old.items) (length sorts.now)) }
     ensures wires { IfOk result (λ _. wires.new.items ≡ wires.old.items ++ sorts.now) }
 {
     let mut numbers = Vec::with_capacity(*wires.allocator(), sorts.len())?;
-    for sort in sorts {
-        numbers.push(WireId(wires.len() as u32))?;
-        wires.push(sort.share()?)?;
-    }
+    add_wires(wires, &mut numbers, sorts)?;
     Ok(numbers)
 }
 

@@ -1,7 +1,7 @@
 // Edges of plain graphs.
 ghost use Rattle.std.specs.Prelude.{◌≡◌};
 
-use crate::WireIds;
+use crate::PortList;
 use chyp_base::Name;
 use std::alloc::AllocError;
 
@@ -11,9 +11,9 @@ pub struct EdgePart {
     /// The name of the generator that the edge stands for.
     pub name: Name,
     /// The wires that the edge consumes, in order.
-    pub sources: WireIds,
+    pub sources: PortList,
     /// The wires that the edge makes, in order.
-    pub targets: WireIds,
+    pub targets: PortList,
 }
 
 impl Clone for EdgePart {

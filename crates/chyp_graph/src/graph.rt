@@ -14,7 +14,7 @@ ghost use Rattle.chyp_graph.specs.Removal.{IsTopologicalOrder};
 ghost use Rattle.chyp_graph.specs.Rounds.{AreRounds};
 ghost use Rattle.chyp_graph.specs.Validity.{IsValid};
 
-use crate::draft::{Draft, add_wires};
+use crate::draft::{Draft, new_wires};
 use crate::levels::rounds_in;
 use crate::port_table::{Port, table_of};
 use crate::removal::topological_order;
@@ -143,7 +143,7 @@ impl Graph {
         ensures { IfOk result (λ graph. graph ≡ beside_graph self.now other.now) }
     {
         let mut wires = copied_wires(&self.wires)?;
-        let numbers = add_wires(&mut wires, &other.wires)?;
+        let numbers = new_wires(&mut wires, &other.wires)?;
         let mut edges = copied_edges(&self.edges)?;
         push_edges(&mut edges, &other.edges, &numbers)?;
         let alloc = *self.wires.allocator();

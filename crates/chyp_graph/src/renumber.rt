@@ -2,7 +2,7 @@
 ghost use Rattle.std.specs.Prelude.{◌≡◌, ◌<◌, ◌++◌, All, IfOk, length, map, slice_index};
 ghost use Rattle.chyp_graph.specs.PlainGraph.{renamed};
 
-use crate::{EdgePart, WireId, WireIds};
+use crate::{EdgePart, PortList, WireId};
 use chyp_base::{NoMemory, Sort};
 
 /// Adds the wires under their new numbers to a list: the wire w has the number `numbers[w]`.
@@ -21,13 +21,13 @@ pub(crate) fn push_wires(
 }
 
 /// The wires under their new numbers.
-fn renumbered(wires: &WireIds, numbers: &[WireId]) -> Result<WireIds, NoMemory>
+fn renumbered(wires: &PortList, numbers: &[WireId]) -> Result<PortList, NoMemory>
     requires { All (λ w. w < length numbers.now) wires.now }
     ensures { IfOk result (λ renamed. renamed ≡ map (slice_index numbers.now) wires.now) }
 {
     let mut list = Vec::new(wires.allocator());
     push_wires(&mut list, wires.as_slice(), numbers)?;
-    Ok(WireIds::from_vec(list))
+    Ok(PortList::from_vec(list))
 }
 
 /// Adds the edges to a list, with their wires under their new numbers.

@@ -2,7 +2,7 @@
 use std::marker::Model;
 
 /// The number of a wire of a graph, from 0.
-#[derive(Clone, Copy, Debug, PartialEq, Eq)]
+#[derive(Clone, Copy, Debug, Default, PartialEq, Eq)]
 pub struct WireId(pub u32);
 
 impl Model for WireId {

@@ -6,7 +6,7 @@ ghost use Rattle.chyp_graph.specs.PlainGraph.{input_sorts, output_sorts};
 
 use crate::diagrams::{graph, permuted};
 use chyp_base::{Name, NoMemory, Sort, Sorts};
-use chyp_graph::{EdgeId, EdgeIds, EdgePart, EdgeParts, Graph, WireId, WireIds};
+use chyp_graph::{EdgeId, EdgeIds, EdgePart, EdgeParts, Graph, PortList, WireId, WireIds};
 use chyp_laws::graphs_decide_the_laws;
 use chyp_term::Term;
 use std::alloc::Global;
@@ -174,8 +174,8 @@ fn edge(alloc: Global, name: &str, from: u32, to: u32) -> Result<EdgePart, Fail>
 {
     Ok(EdgePart {
         name: Name::new(alloc, name)?,
-        sources: WireIds::from_vec(vec![in alloc; WireId(from)]?),
-        targets: WireIds::from_vec(vec![in alloc; WireId(to)]?),
+        sources: PortList::from_vec(vec![in alloc; WireId(from)]?),
+        targets: PortList::from_vec(vec![in alloc; WireId(to)]?),
     })
 }
 

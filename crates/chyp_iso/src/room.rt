@@ -50,6 +50,14 @@ impl Room {
         })
     }
 
+    /// How many edges and wires there is room for.
+    pub(crate) fn sizes(&self) -> (usize, usize)
+        ensures edges { result.0 ≡ self.now.edges }
+        ensures wires { result.1 ≡ self.now.wires }
+    {
+        (self.edges.len(), self.wires.len())
+    }
+
     /// Looks for an isomorphism, and keeps the images of the edges and of the wires at the front of
     /// the lists; whether there is one.
     pub(crate) fn find(&mut self, a: &Graph, b: &Graph) -> bool

@@ -1,8 +1,8 @@
 // The parts of graphs that hang on no interface.
-ghost use Rattle.std.specs.Prelude.{◌≡◌, ◌<◌, ℕ, [], ◌∷◌, length};
+ghost use Rattle.std.specs.Prelude.{◌≡◌, ◌<◌, ℕ, [], ◌∷◌, None, length};
 ghost use Rattle.std.specs.Bool.{MatchBool};
 ghost use Rattle.chyp_graph.specs.Isomorphism.{Isomorphic};
-ghost use Rattle.chyp_pairs.specs.Pairs.{Has, Pairs};
+ghost use Rattle.chyp_pairs.specs.Pairs.{Has, Pairs, edge_there, image};
 ghost use Rattle.chyp_iso.specs.Following.{Leads, Maps, Refutes};
 ghost use Rattle.chyp_iso.specs.Search.{AreKnown, IsExtended, IsPairing};
 ghost use Rattle.chyp_pairs.specs.declared.pair.Pair.TheVariants.{Edges};
@@ -25,17 +25,22 @@ fn pair_part(pairing: &mut Pairing, a: &Graph, b: &Graph, e: EdgeId, f: EdgeId) 
     pair_edges(pairing, a, b, e, f) && follow_all(pairing, a, b, count)
 }
 
-/// Pairs two edges and all that hangs on them, or else changes nothing; whether it could.
+/// Pairs two edges, of which the first is in no pair, and all that hangs on them, or else changes
+/// nothing; whether it could. Where the second is in a pair, it says so at once.
 fn try_part(pairing: &mut Pairing, a: &Graph, b: &Graph, e: EdgeId, f: EdgeId) -> bool
     requires whole { IsPairing a.now b.now pairing.old }
     requires there { e < length a.now.edges }
     requires within { f < length b.now.edges }
+    requires new { image edge_there pairing.old.pairs e ≡ None }
     ensures outcome { MatchBool result
         (Leads a.now b.now (Edges e f ∷ []) pairing.old pairing.new
         × Has pairing.new.pairs (Edges e f)
         × IsPairing a.now b.now pairing.new)
         ((pairing.new ≡ pairing.old) × Refutes a.now b.now (Edges e f ∷ []) pairing.old.pairs) }
 {
+    if pairing.edge_back(f).is_some() {
+        return false;
+    }
     let count = pairing.len();
     if pair_part(pairing, a, b, e, f) {
         return true;
@@ -44,11 +49,12 @@ fn try_part(pairing: &mut Pairing, a: &Graph, b: &Graph, e: EdgeId, f: EdgeId) -
     false
 }
 
-/// Pairs an edge of the first graph, and all that hangs on it, with the first edge of the other graph
-/// that fits; whether there is one.
+/// Pairs an edge of the first graph that is in no pair, and all that hangs on it, with the first edge
+/// of the other graph that fits; whether there is one.
 fn pair_somehow(pairing: &mut Pairing, a: &Graph, b: &Graph, e: EdgeId) -> bool
     requires whole { IsPairing a.now b.now pairing.old }
     requires there { e < length a.now.edges }
+    requires new { image edge_there pairing.old.pairs e ≡ None }
     ensures outcome { MatchBool result
         (IsPairing a.now b.now pairing.new
         × ((f : ℕ) × Leads a.now b.now (Edges e f ∷ []) pairing.old pairing.new × Has pairing.new.pairs (Edges e f)))

@@ -8,7 +8,7 @@ ghost use Rattle.chyp_replace.specs.Renumbered.{renumbered_by, renumbered_edge};
 use crate::images::edge_marks;
 use crate::numbers::Numbers;
 use chyp_base::NoMemory;
-use chyp_graph::{EdgeId, EdgePart, EdgeView, Graph, WireId, WireIds};
+use chyp_graph::{EdgeId, EdgePart, EdgeView, Graph, PortList, WireId};
 use std::alloc::Global;
 
 /// The wires under their new numbers: the wire w has the number `numbers[w]`.
@@ -44,8 +44,8 @@ fn renumbered_edge(
 {
     Ok(EdgePart {
         name: edge.name.share()?,
-        sources: WireIds::from_vec(renumbered(alloc, edge.sources, users)?),
-        targets: WireIds::from_vec(renumbered(alloc, edge.targets, makers)?),
+        sources: PortList::from_vec(renumbered(alloc, edge.sources, users)?),
+        targets: PortList::from_vec(renumbered(alloc, edge.targets, makers)?),
     })
 }
 

@@ -70,8 +70,8 @@ returns-in_ok-add_edge-in-Gen-clause-drawn t c =
     let old : PlainGraph = drawn c.args.self.now in
     let live : c.args.at + length a ≤ length c.args.live.now = subst (λ x. c.args.at + length (dom x) ≤ length c.args.live.now) m c.requires.live in
     let size : c.args.at + length c.as_slice.result.now - c.args.at ≡ length a = ap (λ l. c.args.at + length l - c.args.at) c.as_slice.ensures ∙ omega arith in
-    let sources : c.in_ok-sources-in-Gen.sources.items ≡ take (length a) (drop c.args.at c.args.live.now) =
-    c.in_ok-sources-in-Gen.ensures.items ∙ ap (λ k. take k (drop c.args.at c.args.live.now)) size in
+    let sources : c.in_ok-sources-in-Gen.sources ≡ take (length a) (drop c.args.at c.args.live.now) =
+    c.in_ok-sources-in-Gen.ensures ∙ ap (λ k. take k (drop c.args.at c.args.live.now)) size in
     let plain : List ℕ → List Sort → PlainGraph = λ l ts. record {
       wires = c.args.self.now.wires.items ++ ts;
       edges = c.args.self.now.edges.items ++ record { name = n; sources = l; targets = count_from (length c.args.self.now.wires.items) (length ts) } ∷ [];

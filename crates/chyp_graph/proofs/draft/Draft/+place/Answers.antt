@@ -1,4 +1,4 @@
-use Rattle.std.proofs.Common.{ℕ, List, ◌≡◌, ◌∙◌, [], ◌∷◌, ◌++◌, sym, ap, ap₂, subst, arith, ◌<◌, ◌≤◌, ◌+◌, length, slice_index}
+use Rattle.std.proofs.Common.{ℕ, List, ◌≡◌, ◌∙◌, [], ◌∷◌, ◌++◌, sym, ap, ap₂, subst, arith, ◌<◌, ◌≤◌, ◌+◌, ◌-◌, drop, length, slice_index, take}
 use Rattle.std.proofs.lemmas.Result.{IfOk-weaker}
 use Rattle.chyp_term.specs.Morphism.{then, beside, generator, permutation, IsTyped, dom}
 use Rattle.chyp_base.specs.declared.sort.Sort.{Sort}
@@ -10,9 +10,18 @@ use Rattle.chyp_graph.specs.Composition.{beside_graph}
 use Rattle.chyp_graph.specs.Draft.{drawn, followed}
 use Rattle.chyp_graph.specs.GraphOf.{graph_of}
 use Rattle.chyp_graph.specs.PlainGraph.{PlainGraph}
-use Rattle.chyp_graph.proofs.Leaves.{place_generator, place_permutation}
+use Rattle.chyp_graph.proofs.Leaves.{place_generator, place_permutation, put-behind}
 use Rattle.chyp_graph.proofs.Steps.{part, place_seq, place_seq-room, place_par, place_par-room}
 use Rattle.chyp_graph.proofs.draft.Draft.+place.Goals as goal
+
+-- the wires that a permutation takes are its inputs, which were put behind those of the draft
+taken : (t : ℕ) (c : goal.After-places t) → take (length c.deref-in-Perm.result.now - c.len-first-in-Perm.result) (drop c.len-first-in-Perm.result c.deref-in-Perm.result.now)
+    ≡ count_from (length c.args.self.now.wires.items) (length c.in-Perm.sorts)
+taken t c =
+    let old : PlainGraph = drawn c.args.self.now in
+    put-behind old.inputs (count_from (length old.wires) (length c.in-Perm.sorts)) c.deref-in-Perm.result.now c.len-first-in-Perm.result
+    (c.len-first-in-Perm.ensures ∙ c.args.self.now.inputs.ok.0)
+    (c.deref-in-Perm.ensures.value ∙ c.in_ok-add_wires-in-Perm.ensures.numbers ∙ ap (λ l. old.inputs ++ count_from (length old.wires) (length l)) c.as_slice-in-Perm.ensures)
 
 pub push_at-requires : goal.push_at-requires
 push_at-requires t c j h =
@@ -20,10 +29,8 @@ push_at-requires t c j h =
     let p = c.in-Perm.perm.value in
     let m : morphism_of c.args.term.now ≡ permutation a p = ap morphism_of c.in-Perm.is in
     let ty : IsPermutation (length a) p = subst IsTyped m c.requires.typed in
-    let size : length c.deref-in-Perm-2.result.now ≡ length a =
-    ap length (c.deref-in-Perm-2.ensures.value ∙ c.in_ok-wires-in-Perm.ensures.numbers)
-    ∙ length-count_from (length c.args.self.now.wires.items) (length c.as_slice-in-Perm.result.now) ∙ ap length c.as_slice-in-Perm.ensures in
-    let places = c.places.ensures.value ∙ c.deref-in-Perm-3.ensures in
+    let size = ap length (taken t c) ∙ length-count_from (length c.args.self.now.wires.items) (length a) in
+    let places = c.places.ensures.value ∙ c.deref-in-Perm-2.ensures in
     let within : slice_index p j < length a = ty.within j (subst (λ n. j < n) ty.size (subst (λ l. j < length l) places h)) in
     subst (λ n. slice_index c.places.result.now j < n) (sym size) (subst (λ l. slice_index l j < length a) (sym places) within)
 
@@ -73,18 +80,19 @@ place-requires-in-Par-2 t c =
     let dec = c.decreases in
     (omega arith, (subst IsTyped (sym d2) ty.1, subst (λ x. length c.place-in-Par.new.self.wires.items + size_of x < 2147483648) (sym d2) r))
 
-pub returns-in_ok-extend_from_slice-in-Gen : goal.returns-in_ok-extend_from_slice-in-Gen
-returns-in_ok-extend_from_slice-in-Gen t c =
+pub returns-in_ok-sources-in-Gen : goal.returns-in_ok-sources-in-Gen
+returns-in_ok-sources-in-Gen t c =
     let n = c.in-Gen.name in
     let a = c.in-Gen.dom in
     let b = c.in-Gen.cod in
     let old : PlainGraph = drawn c.args.self.now in
     let m : morphism_of c.args.term.now ≡ generator n a b = ap morphism_of c.in-Gen.is in
-    let wires : c.add_wires.new.wires.items ≡ old.wires ++ a = c.in_ok-sources-in-Gen.ensures.wires ∙ ap (λ l. old.wires ++ l) c.as_slice.ensures in
-    let sources : c.in_ok-sources-in-Gen.sources.items ≡ count_from (length old.wires) (length a) =
-    c.in_ok-sources-in-Gen.ensures.numbers ∙ ap (λ l. count_from (length old.wires) (length l)) c.as_slice.ensures in
-    let inputs : c.extend_from_slice.new.self.items ≡ old.inputs ++ count_from (length old.wires) (length a) =
-    c.in_ok-extend_from_slice-in-Gen.ensures.items ∙ ap (λ l. old.inputs ++ l) (c.deref.ensures.value ∙ sources) in
+    let wires : c.add_wires.new.wires.items ≡ old.wires ++ a = c.in_ok-add_wires-in-Gen.ensures.wires ∙ ap (λ l. old.wires ++ l) c.as_slice.ensures in
+    let inputs : c.add_wires.new.numbers.items ≡ old.inputs ++ count_from (length old.wires) (length a) =
+    c.in_ok-add_wires-in-Gen.ensures.numbers ∙ ap (λ l. old.inputs ++ count_from (length old.wires) (length l)) c.as_slice.ensures in
+    let sources : c.in_ok-sources-in-Gen.sources ≡ count_from (length old.wires) (length a) =
+    c.in_ok-sources-in-Gen.ensures ∙ put-behind old.inputs (count_from (length old.wires) (length a)) c.deref.result.now c.len-first.result
+    (c.len-first.ensures ∙ c.args.self.now.inputs.ok.0) (c.deref.ensures.value ∙ inputs) in
     let plain : List Sort → List ℕ → List ℕ → List Sort → PlainGraph = λ w l i ts. record {
       wires = w ++ ts;
       edges = old.edges ++ record { name = n; sources = l; targets = count_from (length w) (length ts) } ∷ [];
@@ -93,29 +101,27 @@ returns-in_ok-extend_from_slice-in-Gen t c =
     } in
     IfOk-weaker c.add_edge.result _ _ (λ _ done.
     subst (λ x. drawn c.add_edge.new.self ≡ beside_graph old (graph_of x)) (sym m)
-    (done ∙ ap₂ (λ w l. plain w l c.extend_from_slice.new.self.items c.as_slice-in-Gen.result.now) wires sources
+    (done ∙ ap₂ (λ w l. plain w l c.add_wires.new.numbers.items c.as_slice-in-Gen.result.now) wires sources
     ∙ ap₂ (plain (old.wires ++ a) (count_from (length old.wires) (length a))) inputs c.as_slice-in-Gen.ensures
     ∙ place_generator old n a b))
     c.add_edge.ensures
 
-pub returns-in_ok-extend_from_slice-in-Perm : goal.returns-in_ok-extend_from_slice-in-Perm
-returns-in_ok-extend_from_slice-in-Perm t c =
+pub returns-in_ok-add_wires-in-Perm : goal.returns-in_ok-add_wires-in-Perm
+returns-in_ok-add_wires-in-Perm t c =
     let a = c.in-Perm.sorts in
     let p = c.in-Perm.perm.value in
     let m : morphism_of c.args.term.now ≡ permutation a p = ap morphism_of c.in-Perm.is in
     let ty : IsPermutation (length a) p = subst IsTyped m c.requires.typed in
     let old : PlainGraph = drawn c.args.self.now in
-    let wires : c.add_wires-in-Perm.new.wires.items ≡ old.wires ++ a = c.in_ok-wires-in-Perm.ensures.wires ∙ ap (λ l. old.wires ++ l) c.as_slice-in-Perm.ensures in
-    let numbers : c.in_ok-wires-in-Perm.wires.items ≡ count_from (length old.wires) (length a) =
-    c.in_ok-wires-in-Perm.ensures.numbers ∙ ap (λ l. count_from (length old.wires) (length l)) c.as_slice-in-Perm.ensures in
-    let inputs : c.extend_from_slice-in-Perm.new.self.items ≡ old.inputs ++ count_from (length old.wires) (length a) =
-    c.in_ok-extend_from_slice-in-Perm.ensures.items ∙ ap (λ l. old.inputs ++ l) (c.deref-in-Perm.ensures.value ∙ numbers) in
+    let wires : c.add_wires-in-Perm.new.wires.items ≡ old.wires ++ a = c.in_ok-add_wires-in-Perm.ensures.wires ∙ ap (λ l. old.wires ++ l) c.as_slice-in-Perm.ensures in
+    let inputs : c.add_wires-in-Perm.new.numbers.items ≡ old.inputs ++ count_from (length old.wires) (length a) =
+    c.in_ok-add_wires-in-Perm.ensures.numbers ∙ ap (λ l. old.inputs ++ count_from (length old.wires) (length l)) c.as_slice-in-Perm.ensures in
     IfOk-weaker c.push_at.result _ _ (λ _ done.
-    subst (λ x. drawn (record c.args.self.now { wires = c.add_wires-in-Perm.new.wires; inputs = c.extend_from_slice-in-Perm.new.self; outputs = c.push_at.new.list }) ≡ beside_graph old (graph_of x))
+    subst (λ x. drawn (record c.args.self.now { wires = c.add_wires-in-Perm.new.wires; inputs = c.add_wires-in-Perm.new.numbers; outputs = c.push_at.new.list }) ≡ beside_graph old (graph_of x))
     (sym m)
     (ap₂ (λ w i. record { wires = w; edges = old.edges; inputs = i; outputs = c.push_at.new.list.items }) wires inputs
     ∙ ap (λ o. record { wires = old.wires ++ a; edges = old.edges; inputs = old.inputs ++ count_from (length old.wires) (length a); outputs = o })
-    (done ∙ ap₂ (λ l q. old.outputs ++ permuted l q) (c.deref-in-Perm-2.ensures.value ∙ numbers) (c.places.ensures.value ∙ c.deref-in-Perm-3.ensures))
+    (done ∙ ap₂ (λ l q. old.outputs ++ permuted l q) (taken t c.before) (c.places.ensures.value ∙ c.deref-in-Perm-2.ensures))
     ∙ place_permutation old a p ty))
     c.push_at.ensures
 
