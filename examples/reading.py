@@ -1,8 +1,10 @@
 """A second reading of docs/LANGUAGE.md: what `chyp check` is to write, found by other means.
 
-It shares nothing with the program. Terms are drawn as graphs and compared by search, with no thought of
-speed, and only for texts within the limit on their length.
+It shares nothing with the program. Terms are drawn as graphs and compared by search, and a rule is tried at
+every place where its left side occurs, with no thought of speed, and only for texts within the limit on
+their length.
 """
+import itertools
 from collections import namedtuple
 
 STATEMENTS = {"gen", "let", "rule", "rewrite", "import", "show", "type"}
@@ -12,6 +14,7 @@ NAMES = ("identifier", "dotted")
 MOST_PARENTHESES = 256
 MOST_PORTS = 64
 MOST_GENERATORS, MOST_SIZE, MOST_DEPTH, MOST_TOGETHER = 1024, 200_000, 256, 4_000_000
+MOST_PLACEMENTS = 65_536
 
 Token = namedtuple("Token", "kind start end value")
 
@@ -102,9 +105,12 @@ def chunks_of(tokens):
 Name = namedtuple("Name", "token")
 Swap = namedtuple("Swap", "token places")
 Row = namedtuple("Row", "kind parts semicolons")
-Step = namedtuple("Step", "equals goal rules")
+Signed = namedtuple("Signed", "minus token")
+Reason = namedtuple("Reason", "is_simp rules")
+Step = namedtuple("Step", "equals goal reason")
 Sentence = namedtuple("Sentence", "kind terms steps ports shown")
 IDENTITY, EMPTY = Swap(None, [0]), Swap(None, [])
+BY_LAWS = Reason(False, [])
 
 
 class NoSentence(Exception):
@@ -170,16 +176,16 @@ class Parser:
         return self.listed(self.number, "]") if self.accept("[") else [1, 0]
 
     def rule(self):
-        self.accept("-")
-        return self.expect(*NAMES)
+        minus = self.accept("-")
+        return Signed(minus, self.expect(*NAMES))
 
     def reason(self):
         if not self.accept("by"):
-            return []
+            return BY_LAWS
         if not self.accept("simp"):
-            return [self.rule()]
+            return Reason(False, [self.rule()])
         self.expect("(")
-        return self.listed(self.rule, ")")
+        return Reason(True, self.listed(self.rule, ")"))
 
     def steps(self):
         steps = []
@@ -211,7 +217,7 @@ class Parser:
         if kind in ("let", "rule", "rewrite"):
             terms.append(self.term())
         if kind == "rule":
-            steps.append(Step(self.expect("="), self.term(), []))
+            steps.append(Step(self.expect("="), self.term(), BY_LAWS))
         if kind == "rewrite":
             steps = self.steps()
         if self.at < len(self.chunk):
@@ -303,27 +309,34 @@ Edge = namedtuple("Edge", "name sources targets")
 
 
 class Graph:
-    """The graph of a term: a wire is a number, and an edge knows the wires that it joins."""
+    """A graph: a wire is a number, or whatever else it is called by, and an edge knows the wires that it joins."""
 
-    def __init__(self, term):
-        self.inputs = list(range(width(term)))
-        self.wires, self.edges = len(self.inputs), []
-        self.outputs = self.draw(term, self.inputs)
+    def __init__(self, wires, edges, inputs, outputs):
+        self.wires, self.edges, self.inputs, self.outputs = wires, edges, inputs, outputs
         self.makers = {wire: (k, i) for k, edge in enumerate(self.edges) for i, wire in enumerate(edge.targets)}
         self.users = {wire: (k, i) for k, edge in enumerate(self.edges) for i, wire in enumerate(edge.sources)}
 
-    def draw(self, term, live):
+
+def graph_of(term):
+    """The graph of a term."""
+    wires, edges = list(range(width(term))), []
+
+    def draw(term, live):
         if isinstance(term, Wires):
             return [live[place] for place in term.places]
         if isinstance(term, Generator):
-            targets = list(range(self.wires, self.wires + term.outputs))
-            self.wires += term.outputs
-            self.edges.append(Edge(term.name, live, targets))
+            targets = list(range(len(wires), len(wires) + term.outputs))
+            wires.extend(targets)
+            edges.append(Edge(term.name, live, targets))
             return targets
         if term.kind == "chain":
-            return self.draw(term.rest, self.draw(term.first, live))
+            return draw(term.rest, draw(term.first, live))
         middle = width(term.first)
-        return self.draw(term.first, live[:middle]) + self.draw(term.rest, live[middle:])
+        return draw(term.first, live[:middle]) + draw(term.rest, live[middle:])
+
+    inputs = list(wires)
+    outputs = draw(term, inputs)
+    return Graph(wires, edges, inputs, outputs)
 
 
 def width(term):
@@ -368,19 +381,116 @@ def is_extended(one, other, wires, edges):
     """Whether the pairs can be extended to all edges and wires."""
     left = [k for k in range(len(one.edges)) if k not in edges]
     if not left:
-        return len(wires) == one.wires
+        return len(wires) == len(one.wires)
     found = (followed(one, other, wires, edges, [], [(left[0], k)]) for k in range(len(other.edges)))
     return any(pairs and is_extended(one, other, *pairs) for pairs in found)
 
 
-def are_equal(first, second):
-    """Whether the graphs of two terms of one type are isomorphic, with inputs and outputs fixed."""
-    one, other = Graph(first), Graph(second)
-    if one.wires != other.wires or len(one.edges) != len(other.edges):
+def are_isomorphic(one, other):
+    """Whether two graphs of one type are isomorphic, with inputs and outputs fixed."""
+    if len(one.wires) != len(other.wires) or len(one.edges) != len(other.edges):
         return False
     ends = [*zip(one.inputs, other.inputs), *zip(one.outputs, other.outputs)]
     pairs = followed(one, other, {}, {}, ends, [])
     return pairs is not None and is_extended(one, other, *pairs)
+
+
+# ## Rules
+
+
+def bare_wires(graph):
+    """The wires that no edge has."""
+    return [wire for wire in graph.wires if wire not in graph.makers and wire not in graph.users]
+
+
+def components(graph):
+    """The first edge of each component that has one."""
+    firsts, found = [], set()
+    for k in range(len(graph.edges)):
+        if k in found:
+            continue
+        firsts.append(k)
+        waiting = [k]
+        while waiting:
+            edge = waiting.pop()
+            if edge in found:
+                continue
+            found.add(edge)
+            ports = graph.edges[edge].sources + graph.edges[edge].targets
+            waiting += [end[wire][0] for wire in ports for end in (graph.makers, graph.users) if wire in end]
+    return firsts
+
+
+def placements(left, graph):
+    """In how many ways the components of the left side may begin in a graph, or the most that 64 bits hold."""
+    names = [edge.name for edge in graph.edges]
+    count = len(graph.wires) ** len(bare_wires(left))
+    for k in components(left):
+        count *= names.count(left.edges[k].name)
+    return min(count, 2**64 - 1)
+
+
+def paired(mine, theirs, wires):
+    """The wires with those pairs added, or None where a wire would have two partners."""
+    wires = dict(wires)
+    for a, b in zip(mine, theirs):
+        if wires.setdefault(a, b) != b:
+            return None
+    return wires if len(set(wires.values())) == len(wires) else None
+
+
+def embeddings(left, graph, edges, wires):
+    """All images of the edges and wires of the left side in a graph that fit, each edge and wire for itself."""
+    k = len(edges)
+    if k < len(left.edges):
+        mine = left.edges[k]
+        for number, theirs in enumerate(graph.edges):
+            if number not in edges and theirs.name == mine.name:
+                more = paired(mine.sources + mine.targets, theirs.sources + theirs.targets, wires)
+                if more is not None:
+                    yield from embeddings(left, graph, [*edges, number], more)
+        return
+    free = [wire for wire in graph.wires if wire not in wires.values()]
+    bare = [wire for wire in left.wires if wire not in wires]
+    for images in itertools.permutations(free, len(bare)):
+        yield edges, {**wires, **dict(zip(bare, images))}
+
+
+def is_convex(graph, edges, wires):
+    """Whether no chain of edges outside the image leads from an image wire to an image wire."""
+    image, found = set(wires.values()), set()
+    waiting = list(image)
+    while waiting:
+        k = graph.users.get(waiting.pop(), (None,))[0]
+        if k is None or k in edges or k in found:
+            continue
+        found.add(k)
+        if image & set(graph.edges[k].targets):
+            return False
+        waiting += graph.edges[k].targets
+    return True
+
+
+def occurrences(left, graph):
+    """All convex occurrences of the left side in a graph."""
+    return [found for found in embeddings(left, graph, [], {}) if is_convex(graph, *found)]
+
+
+def replaced(graph, left, right, edges, wires):
+    """The graph with an occurrence of the left side replaced by the right side."""
+    image = set(wires.values())
+    makes = {wires[a]: ("new", b) for a, b in zip(left.inputs, right.inputs)}
+    takes = {wires[a]: ("new", b) for a, b in zip(left.outputs, right.outputs)}
+    new = lambda ports: [("new", wire) for wire in ports]
+    kept = [
+        Edge(edge.name, [takes.get(wire, wire) for wire in edge.sources], [makes.get(wire, wire) for wire in edge.targets])
+        for k, edge in enumerate(graph.edges) if k not in edges
+    ]
+    return Graph(
+        [wire for wire in graph.wires if wire not in image] + new(right.wires),
+        kept + [Edge(edge.name, new(edge.sources), new(edge.targets)) for edge in right.edges],
+        [makes.get(wire, wire) for wire in graph.inputs], [takes.get(wire, wire) for wire in graph.outputs],
+    )
 
 
 # ## Verdicts
@@ -393,7 +503,7 @@ class Refused(Exception):
 def check_names(sentence, reader):
     """Refuses the first name at fault."""
     in_terms = {token for term in sentence.terms for token in names_in(term)}
-    in_reasons = {token for step in sentence.steps for token in step.rules}
+    in_reasons = {signed.token for step in sentence.steps for signed in step.reason.rules}
     if sentence.shown is not None and reader.entry(sentence.shown) is None:
         raise Refused("unknown", sentence.shown)
     for token in sorted(in_terms | in_reasons):
@@ -427,17 +537,34 @@ def check_types(sentence, reader):
         raise Refused("type", *found.args) from None
 
 
-def check_steps(sentence, reader):
-    """Refuses a rewrite that uses an unproved one, that needs rules, or that has a step that is not good."""
-    for token in [token for step in sentence.steps for token in step.rules]:
-        if reader.entry(token).kind == "unproved":
-            raise Refused("unproved", token)
-    if any(step.rules and step.goal is not None for step in sentence.steps):
-        raise Refused("not-built", None)
-    terms = [reader.term(term) for term in sentence.terms]
-    for number, (before, after) in enumerate(zip(terms, terms[1:]), 1):
-        if not are_equal(before, after):
+def check_step(number, before, after, reason, reader):
+    """Refuses a step that isn't good."""
+    if not reason.rules:
+        if not are_isomorphic(before, after):
             raise Refused(f"step {number} differs", None)
+        return
+    (signed,) = reason.rules
+    left, right = [graph_of(term) for term in reader.entry(signed.token).term]
+    if signed.minus:
+        left, right = right, left
+    count = placements(left, before)
+    if count > MOST_PLACEMENTS:
+        raise Refused(f"step {number} too-wide {count}", None)
+    found = occurrences(left, before)
+    if not any(are_isomorphic(replaced(before, left, right, *each), after) for each in found):
+        raise Refused(f"step {number} no-rewrite {len(found)}", None)
+
+
+def check_steps(sentence, reader):
+    """Refuses a rewrite that uses an unproved one, that needs `simp`, or that has a step that is not good."""
+    for signed in [signed for step in sentence.steps for signed in step.reason.rules]:
+        if reader.entry(signed.token).kind == "unproved":
+            raise Refused("unproved", signed.token)
+    if any(step.reason.is_simp and step.goal is not None for step in sentence.steps):
+        raise Refused("not-built", None)
+    graphs = [graph_of(reader.term(term)) for term in sentence.terms]
+    for number, (before, after, step) in enumerate(zip(graphs, graphs[1:], sentence.steps), 1):
+        check_step(number, before, after, step.reason, reader)
     if not sentence.steps or sentence.steps[-1].goal is None:
         raise Refused("open", None)
 
@@ -450,7 +577,9 @@ def entry_of(sentence, reader):
     if sentence.kind == "let":
         (tree,) = sentence.terms
         return Entry("term", reader.term(tree), reader.type(tree), reader.measures(tree))
-    return Entry("law")
+    if sentence.kind in ("rule", "rewrite"):
+        return Entry("law", (reader.term(sentence.terms[0]), reader.term(sentence.terms[-1])))
+    return Entry("shown")
 
 
 def judged(chunk, names):

@@ -1,16 +1,14 @@
 -- Answers of a check.
-use Rattle.std.proofs.Common.{◌≡◌, ℕ, ◌+◌, ◌<◌, ◌≤◌, List, [], ◌++◌, length, Option, Some, None, IfSome, Result, Ok, Err, OnErr, ◌⊎◌, inl, inr, refl, sym, ◌∙◌, ap, subst, arith, append-nil, length-append}
+use Rattle.std.proofs.Common.{◌≡◌, ℕ, ◌+◌, ◌<◌, ◌≤◌, List, [], ◌++◌, length, Option, Some, None, IfSome, Result, Ok, Err, OnErr, inr, refl, sym, ◌∙◌, ap, subst, arith, append-nil, length-append}
 use Rattle.std.specs.Io.KnownBytes.{Consumes}
-use Rattle.chyp_base.specs.Library.{Texts}
 use Rattle.chyp_base.specs.declared.status.Status.{Status}
-use Rattle.chyp_base.specs.declared.status.Status.TheVariants.{BadWords, TooLong}
+use Rattle.chyp_base.specs.declared.status.Status.TheVariants.{TooLong}
 use Rattle.chyp_lex.specs.declared.token.Token.{Token}
 use Rattle.chyp_lex.specs.Tokens.{AreTokens, AreSpans, text_limit}
 use Rattle.chyp_syntax.specs.declared.chunk.Chunk.{Chunk}
 use Rattle.chyp_syntax.specs.Chunk.{AreChunks}
-use Rattle.chyp_app.specs.Output.{Output, IsCheck, IsOutput, of_bad_words, of_check, EachTextIsChecked, CountsStatements, nothing_but, too_long}
-use Rattle.chyp_app.specs.Headline.{BeginsToCheck, Begins, EndsSo, EndsWell, Gives, GivesOrWants}
-use Rattle.chyp_app.specs.Words.{Accepts}
+use Rattle.chyp_app.specs.Output.{Output, IsCheck, EachTextIsChecked, CountsStatements, nothing_but, too_long}
+use Rattle.chyp_app.specs.Headline.{BeginsToCheck, Begins, EndsSo, EndsWell}
 
 pub on_err : {T E : Type 0} (result : Result T E) (P : Type 0) → P → OnErr result P
 on_err (Ok x) P p = tt

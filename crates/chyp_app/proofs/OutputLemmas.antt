@@ -1,5 +1,5 @@
 -- Each run has exactly one output.
-use Rattle.std.proofs.Common.{◌≡◌, ℕ, ◌<◌, ◌≤◌, List, [], ◌∷◌, length, ◌⊎◌, inl, inr, refl, sym, ◌∙◌, ap, ap₂, subst, arith, codes, Bool, true, false, IsTrue}
+use Rattle.std.proofs.Common.{◌≡◌, ℕ, ◌<◌, ◌≤◌, List, [], ◌∷◌, length, ◌⊎◌, inl, inr, refl, sym, ◌∙◌, ap, ap₂, subst, arith, codes, Bool, true, false}
 use Rattle.std.proofs.lemmas.Bool.{cases_lt}
 use Rattle.std.specs.Str.{bytes_eq}
 use Rattle.std.proofs.lemmas.Slice.Eq.{bytes_eq-Decides}
@@ -8,8 +8,9 @@ use Rattle.chyp_lex.specs.declared.token.Token.{Token}
 use Rattle.chyp_lex.specs.Tokens.{HasOneTokenList, text_limit}
 use Rattle.chyp_syntax.specs.declared.chunk.Chunk.{Chunk}
 use Rattle.chyp_syntax.specs.Chunk.{AreChunks, HasOneListOfChunks}
-use Rattle.chyp_check.specs.Verdicts.{AreVerdicts, EachTextHasOneListOfVerdicts}
-use Rattle.chyp_app.specs.Output.{Output, IsCheck, too_long, checked, IsOutput, of_check, of_bad_words, output_of, HasOneOutput, CountsStatements, EachTextIsChecked}
+use Rattle.chyp_verdicts.specs.Explained.{VerdictsAreExplained}
+use Rattle.chyp_verdicts.specs.Texts.{AreVerdicts, EachTextHasOneListOfVerdicts}
+use Rattle.chyp_app.specs.Output.{Output, IsCheck, too_long, checked, IsOutput, of_check, of_bad_words, output_of, HasOneOutput, CountsStatements, EachOutputIsExplained, EachTextIsChecked, says, says_nothing}
 use Rattle.chyp_app.specs.Words.{Accepts}
 
 -- the words are accepted, or they are not
@@ -72,3 +73,8 @@ module _ (token_lists : (text : List ℕ) → HasOneTokenList text) (chunk_lists
   counted_check text tokens chunks short ts cs =
       let verdicts = verdict_lists text tokens chunks in
       (output_of text tokens chunks verdicts.verdicts, checked short ts cs verdicts.are, refl)
+
+-- what an output says is so
+pub explained_check : VerdictsAreExplained → EachOutputIsExplained
+explained_check law text output (too_long h) = says_nothing refl
+explained_check law text output (checked {tokens} {chunks} {verdicts} h ts cs vs) = says ts cs vs refl (law text tokens chunks verdicts vs)

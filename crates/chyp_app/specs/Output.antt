@@ -9,7 +9,8 @@ use Rattle.chyp_lex.specs.Tokens.{AreTokens, text_limit}
 use Rattle.chyp_lex.specs.declared.token.Token.{Token}
 use Rattle.chyp_syntax.specs.Chunk.{AreChunks}
 use Rattle.chyp_syntax.specs.declared.chunk.Chunk.{Chunk}
-use Rattle.chyp_check.specs.Verdicts.{AreVerdicts}
+use Rattle.chyp_verdicts.specs.Explained.{AreExplained}
+use Rattle.chyp_verdicts.specs.Texts.{AreVerdicts, statements_of}
 use Rattle.chyp_app.specs.Report.{report_of}
 use Rattle.chyp_app.specs.Words.{Accepts}
 
@@ -49,6 +50,20 @@ pub data IsOutput (words : List (List ℕ)) (bytes : List ℕ) (texts : Texts) :
   of_check : {output : Output} → Accepts words → IsCheck bytes output → IsOutput words bytes texts output
   of_bad_words : ¬ Accepts words → IsOutput words bytes texts (nothing_but BadWords)
 
+-- What the text of an output says of a text: nothing; or it is the report of the verdicts of the text's statements, and what each
+-- of these says is so. Where a rewrite is proved, its equation has a derivation from `rule` statements that stand before it; where
+-- a step is refused, the laws don't derive it, no context rewrites its term to its goal, or it has too many placements.
+pub data IsExplained (text : List ℕ) (output : Output) : Type 0 where
+  says_nothing : output.text ≡ [] → IsExplained text output
+  says : {tokens : List Token} {chunks : List Chunk} {verdicts : List Verdict} → AreTokens text tokens → AreChunks tokens chunks
+      → AreVerdicts text tokens chunks verdicts → output.text ≡ report_of text tokens chunks verdicts
+      → AreExplained text (statements_of tokens chunks) verdicts → IsExplained text output
+
+-- the output is to be given, and what it says is so
+pub record IsTrueOutput (words : List (List ℕ)) (bytes : List ℕ) (texts : Texts) (output : Output) : Type 0 where
+  pub is_output : IsOutput words bytes texts output
+  pub explained : IsExplained bytes output
+
 -- there is exactly one output that is to be given
 pub record HasOneOutput (words : List (List ℕ)) (bytes : List ℕ) (texts : Texts) : Type 0 where
   pub output : Output
@@ -67,3 +82,7 @@ EachTextIsChecked = (text : List ℕ) → (output : Output) × IsCheck text outp
 abbrev pub CountsStatements : Type 0
 CountsStatements = (text : List ℕ) (tokens : List Token) (chunks : List Chunk) → length text ≤ text_limit → AreTokens text tokens
     → AreChunks tokens chunks → (output : Output) × IsCheck text output × (output.checks ≡ length chunks)
+
+-- what the output of `check` says is so
+abbrev pub EachOutputIsExplained : Type 0
+EachOutputIsExplained = (text : List ℕ) (output : Output) → IsCheck text output → IsExplained text output

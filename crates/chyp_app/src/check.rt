@@ -1,14 +1,15 @@
 // From the bytes of a text to its report.
 ghost use Rattle.std.specs.Prelude.{◌≡◌, ◌≤◌, length, IfOk, OnErr};
 ghost use Rattle.chyp_lex.specs.Tokens.{text_limit};
-ghost use Rattle.chyp_app.specs.Output.{status_of, CountsStatements, EachRunHasOneOutput, EachTextIsChecked, IsCheck};
+ghost use Rattle.chyp_app.specs.Output.{status_of, CountsStatements, EachOutputIsExplained, EachRunHasOneOutput, EachTextIsChecked, IsCheck};
 ghost use Rattle.chyp_app.specs.Headline.{BeginsToCheck, Gives, IsReached};
 
 use crate::report::{good_count, report};
 use chyp_base::{NoMemory, Status, Steps, Verdict};
-use chyp_check::{check_each, each_text_has_one_list_of_verdicts};
+use chyp_check::check_each;
 use chyp_lex::{each_name_is_text, every_text_has_one_token_list, lex};
 use chyp_syntax::{chunks, each_text_has_one_list_of_chunks};
+use chyp_verdicts::each_text_has_one_list_of_verdicts;
 use std::alloc::Global;
 use std::sync::ledger::Ledger;
 
@@ -32,12 +33,13 @@ fn status_of(verdicts: &[Verdict]) -> Status
     }
 }
 
-/// For all words, bytes and texts of a library there is exactly one output; each text is checked, and its
-/// checks are its statements.
+/// For all words, bytes and texts of a library there is exactly one output; each text is checked, its
+/// checks are its statements, and what the report says of its rewrites is so.
 pub fn each_run_has_one_output()
     ensures one { EachRunHasOneOutput }
     ensures each { EachTextIsChecked }
     ensures counts { CountsStatements }
+    ensures explained { EachOutputIsExplained }
 {
     every_text_has_one_token_list();
     each_text_has_one_list_of_chunks();

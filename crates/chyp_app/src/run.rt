@@ -3,7 +3,7 @@ ghost use Rattle.std.specs.Prelude.{◌≡◌, ◌⊎◌, ◌-◌, ◌^◌, ◌<
 ghost use Rattle.std.specs.Io.KnownBytes.{Consumes, IsAtEnd};
 ghost use Rattle.chyp_base.specs.Library.{Texts};
 ghost use Rattle.chyp_app.specs.Words.{Accepts, texts_of};
-ghost use Rattle.chyp_app.specs.Output.{IsCheck, IsOutput};
+ghost use Rattle.chyp_app.specs.Output.{IsCheck, IsTrueOutput};
 ghost use Rattle.chyp_app.specs.Headline.{Begins, BeginsToCheck, EndsSo, EndsWell, ComesBy};
 
 use crate::check::{check_text, each_run_has_one_output};
@@ -86,21 +86,22 @@ pub fn run<S: Source, K: Sink, L: Library, G: Ledger>(
     requires library { L.faults library.old < 2 ^ 64 - 1 }
 
     // Over an outside that tells what it holds and does not fail, the run gives the output for its words and bytes, whatever
-    // the library holds, which isn't asked.
+    // the library holds, which isn't asked. What it says of the rewrites of the text is so: each that is proved has a
+    // derivation from `rule` statements that stand before it.
     ensures output { (texts : Texts) → IfSome (S.left source.old) (λ bytes. IfSome (K.held sink.old) (λ held.
         S.faults source.new ≡ S.faults source.old → K.faults sink.new ≡ K.faults sink.old →
-        EndsWell (IsOutput (texts_of words.now) bytes texts) held (K.held sink.new) steps.old steps.new result)) }
+        EndsWell (IsTrueOutput (texts_of words.now) bytes texts) held (K.held sink.new) steps.old steps.new result)) }
 
     // However it ends, what was written is the front of that output, and no more steps were counted.
     ensures begun { (texts : Texts) → IfSome (S.left source.old) (λ bytes. IfSome (K.held sink.old) (λ held.
-        Begins (IsOutput (texts_of words.now) bytes texts) held (K.held sink.new) steps.old steps.new)) }
+        Begins (IsTrueOutput (texts_of words.now) bytes texts) held (K.held sink.new) steps.old steps.new)) }
 
     // Whether the sink tells what it holds or not: the status and the steps are those of the output.
     ensures judged { (texts : Texts) → IfSome (S.left source.old) (λ bytes.
         S.faults source.new ≡ S.faults source.old → K.faults sink.new ≡ K.faults sink.old →
-        EndsSo (IsOutput (texts_of words.now) bytes texts) steps.old steps.new result) }
+        EndsSo (IsTrueOutput (texts_of words.now) bytes texts) steps.old steps.new result) }
     ensures counted { (texts : Texts) → IfSome (S.left source.old) (λ bytes.
-        BeginsToCheck (IsOutput (texts_of words.now) bytes texts) steps.old steps.new) }
+        BeginsToCheck (IsTrueOutput (texts_of words.now) bytes texts) steps.old steps.new) }
 
     // Words are refused exactly where they are none of the accepted lists, and then nothing is touched.
     ensures bad_words { result ≡ Status.BadWords → ¬ Accepts (texts_of words.now) }
@@ -122,6 +123,7 @@ pub fn run<S: Source, K: Sink, L: Library, G: Ledger>(
     // A run that ended well read its source to the end.
     ensures whole { ((result ≡ Status.Done) ⊎ (result ≡ Status.SomeNotGood)) → IsAtEnd (S.left source.new) }
 {
+    each_run_has_one_output();
     if is_check(words) {
         check(alloc, source, sink, steps)
     } else {

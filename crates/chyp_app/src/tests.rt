@@ -15,7 +15,7 @@ struct Case {
     written: &'static str,
 }
 
-const CASES: [Case; 27] = [
+const CASES: [Case; 34] = [
     Case {
         text: b"",
         status: Status::Done,
@@ -112,17 +112,59 @@ const CASES: [Case; 27] = [
         status: Status::SomeNotGood,
         written: "1:1 rewrite a open\n2:1 rewrite a declared at 2:9\ntotal 2 good 0\n",
     },
-    // A rewrite with a step by a rule is not judged, and is no rule.
+    // A rewrite with a step by `simp` is not judged, and is no rule.
     Case {
-        text: b"gen f : 1 -> 1\nrule r : f = f\nrewrite a : f = f by r\nrewrite b : id = id by a",
+        text: b"gen f : 1 -> 1\nrule r : f = f\nrewrite a : f = f by simp(r)\nrewrite b : f = f by a",
         status: Status::SomeNotGood,
-        written: "1:1 gen f ok\n2:1 rule r ok\n3:1 rewrite a not-built\n4:1 rewrite b unproved at 4:24\ntotal 4 good 2\n",
+        written: "1:1 gen f ok\n2:1 rule r ok\n3:1 rewrite a not-built\n4:1 rewrite b unproved at 4:22\ntotal 4 good 2\n",
     },
     // A proved rewrite is a rule.
     Case {
-        text: b"gen f : 1 -> 1\nrewrite a : f = f\nrewrite b : id = id by a\nrewrite c : f = ? by a",
+        text: b"gen f : 1 -> 1\nrewrite a : f = f\nrewrite b : id = id by a\nrewrite c : f ; f = f ; f by a\nrewrite d : f = ? by a",
         status: Status::SomeNotGood,
-        written: "1:1 gen f ok\n2:1 rewrite a proved\n3:1 rewrite b not-built\n4:1 rewrite c open\ntotal 4 good 2\n",
+        written: "1:1 gen f ok\n2:1 rewrite a proved\n3:1 rewrite b step 1 no-rewrite 0\n4:1 rewrite c proved\n5:1 rewrite d open\ntotal 5 good 3\n",
+    },
+    // Both boxes of the left side are there, and no context has them side by side.
+    Case {
+        text: b"gen f : 1 -> 1\ngen g : 1 -> 1\ngen h : 1 -> 1\nrule p : f * h = h * f\nrewrite c : f ; g ; h = h ; g ; f by p\n",
+        status: Status::SomeNotGood,
+        written: "1:1 gen f ok\n2:1 gen g ok\n3:1 gen h ok\n4:1 rule p ok\n5:1 rewrite c step 1 no-rewrite 0\ntotal 5 good 4\n",
+    },
+    // The left side of the second step is a bare wire, at two places, of which the second leads to the goal.
+    Case {
+        text: b"gen f : 1 -> 1\ngen m : 2 -> 1\ngen u : 0 -> 1\nrule unitL : u * id ; m = id\nrewrite a : u * u ; m = u by unitL\nrewrite b : f = u * f ; m by -unitL\n",
+        status: Status::Done,
+        written: "1:1 gen f ok\n2:1 gen m ok\n3:1 gen u ok\n4:1 rule unitL ok\n5:1 rewrite a proved\n6:1 rewrite b proved\ntotal 6 good 6\n",
+    },
+    // The left side is empty.
+    Case {
+        text: b"gen f : 1 -> 1\ngen s : 0 -> 0\nrule q : id0 = s\nrewrite d : f = f * s by q\n",
+        status: Status::Done,
+        written: "1:1 gen f ok\n2:1 gen s ok\n3:1 rule q ok\n4:1 rewrite d proved\ntotal 4 good 4\n",
+    },
+    // 16 times 15 times 14 times 13 occurrences, of which none leads to the goal.
+    Case {
+        text: b"gen s : 0 -> 0\nrule z : s * s * s * s = s\nrewrite w : s * s * s * s * s * s * s * s * s * s * s * s * s * s * s * s = s * s * s * s * s * s * s * s * s * s * s * s * s * s * s * s by z\n",
+        status: Status::SomeNotGood,
+        written: "1:1 gen s ok\n2:1 rule z ok\n3:1 rewrite w step 1 no-rewrite 43680\ntotal 3 good 2\n",
+    },
+    // 17 times 17 times 17 times 17 placements, which are too many.
+    Case {
+        text: b"gen s : 0 -> 0\nrule z : s * s * s * s = s\nrewrite w : s * s * s * s * s * s * s * s * s * s * s * s * s * s * s * s * s = s * s * s * s * s * s * s * s * s * s * s * s * s * s * s * s * s by z\n",
+        status: Status::SomeNotGood,
+        written: "1:1 gen s ok\n2:1 rule z ok\n3:1 rewrite w step 1 too-wide 83521\ntotal 3 good 2\n",
+    },
+    // Steps are judged up to the first that isn't good, and a rewrite that isn't proved is no rule.
+    Case {
+        text: b"gen f : 1 -> 1\ngen g : 1 -> 1\nrule r : f = g\nrewrite a : f = g by r = f ; f\nrewrite b : f = f ; f by a\n",
+        status: Status::SomeNotGood,
+        written: "1:1 gen f ok\n2:1 gen g ok\n3:1 rule r ok\n4:1 rewrite a step 2 differs\n5:1 rewrite b unproved at 5:26\ntotal 5 good 3\n",
+    },
+    // A rule is read from left to right, and behind a minus from right to left.
+    Case {
+        text: b"gen f : 1 -> 1\ngen g : 1 -> 1\nrule r : f = g\nrewrite a : f ; f = f ; g by r\nrewrite b : f ; f = f ; g by -r\nrewrite c : f ; g = f ; f by -r\n",
+        status: Status::SomeNotGood,
+        written: "1:1 gen f ok\n2:1 gen g ok\n3:1 rule r ok\n4:1 rewrite a proved\n5:1 rewrite b step 1 no-rewrite 0\n6:1 rewrite c proved\ntotal 6 good 5\n",
     },
     // A dotted name binds nothing.
     Case {

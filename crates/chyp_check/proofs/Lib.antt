@@ -1,10 +1,3 @@
-pub mod OneVerdict
-pub mod OneBinding
-pub mod SomeVerdict
-pub mod SomeBinding
-pub mod SomeVerdicts
 pub mod StepLists
-pub mod StepVerdicts
 pub mod Outcomes
 pub mod Texts
-pub mod Below

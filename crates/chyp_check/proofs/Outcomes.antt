@@ -1,26 +1,28 @@
 -- From what was elaborated to verdicts.
-use Rattle.std.proofs.Common.{◌≡◌, ℕ, ◌<◌, ◌≤◌, true, List, [], ◌∷◌, length, Some, None, sum_by, refl, sym, ◌∙◌, subst, arith}
+use Rattle.std.proofs.Common.{◌≡◌, ℕ, ◌+◌, ◌<◌, ◌≤◌, Bool, true, List, [], ◌∷◌, length, Some, None, sum_by, refl, sym, ◌∙◌, ap, subst, arith, ◌⊎◌, inl, inr}
 use Rattle.std.proofs.lemmas.List.Sums.{sum_by-cons}
 use Rattle.std.proofs.lemmas.Bool.{false≢true}
+use Rattle.std.proofs.lemmas.List.{length-map}
 use Rattle.chyp_base.specs.declared.verdict.Verdict.{Verdict}
 use Rattle.chyp_base.specs.declared.verdict.Verdict.TheVariants.{Accepted, Proved, Syntax}
 use Rattle.chyp_lex.specs.declared.token.TokenKind.TheVariants.{WordRewrite}
 use Rattle.chyp_syntax.specs.Sentence.{IsSentence}
 use Rattle.chyp_syntax.specs.Statement.{StatementTree, generator as a_gen, definition, rule, rewrite, inclusion, showing}
-use Rattle.chyp_syntax.specs.Step.{StepTree}
 use Rattle.chyp_syntax.proofs.Spans.{spans_few}
 use Rattle.chyp_term.specs.Measure.{size_of}
+use Rattle.chyp_term.specs.Step.{Reason, reason_of, reasons_of}
 use Rattle.chyp_term.specs.Morphism.{Morphism, generator, permutation, then, beside}
 use Rattle.chyp_env.specs.declared.chunk_view.ChunkView.{ChunkView}
 use Rattle.chyp_env.specs.ChunkView.{IsLent}
 use Rattle.chyp_env.specs.Site.{Site}
 use Rattle.chyp_names.specs.declared.body.Body.{Body}
 use Rattle.chyp_names.specs.Binding.{IsOutcome}
-use Rattle.chyp_names.specs.Elaboration.{IsBody, IsRefused, Passes, terms_of}
-use Rattle.chyp_check.specs.Judged.{IsJudged, IsVerdictOf, accepted, by_steps, is_rewrite}
-use Rattle.chyp_check.specs.Steps.{IsVerdictOnSteps, not_built, differs, unfinished, proved}
-use Rattle.chyp_check.proofs.OneBinding.{keyword_of_tree, rewrite-begins, sentence-is_rewrite}
-use Rattle.chyp_check.proofs.SomeBinding.{IsBad, refused-bad}
+use Rattle.chyp_names.specs.Elaboration.{IsBody, IsRefused, Passes, has_hole, steps_at, terms_of}
+use Rattle.chyp_verdicts.specs.Judged.{IsJudged, IsVerdictOf, accepted, by_steps, is_rewrite}
+use Rattle.chyp_verdicts.specs.Steps.{IsVerdictOnSteps}
+use Rattle.chyp_verdicts.proofs.Follows.{goals-few}
+use Rattle.chyp_verdicts.proofs.OneBinding.{keyword_of_tree, rewrite-begins, sentence-is_rewrite}
+use Rattle.chyp_verdicts.proofs.SomeBinding.{IsBad, refused-bad, steps-bad}
 
 -- a lent statement has fewer tokens than a text may have bytes
 pub tokens_few : (chunk : ChunkView) → IsLent chunk → length chunk.tokens.now < 4294967296
@@ -43,50 +45,46 @@ terms_few (t ∷ ts) =
 
 -- the verdict of a sentence that nothing refuses
 pub judged_sentence : (s : Site) (tree : StatementTree) (body : Body) (v : Verdict) → IsSentence s.tokens tree → Passes s tree → IsBody s tree body
-    → IsVerdictOf body.terms tree v → IsJudged s v
-judged_sentence s tree body v t p b = go tree t p b.terms
+    → IsVerdictOf body.terms (reasons_of body.steps) body.hole tree v → IsJudged s v
+judged_sentence s tree body v t p b = go tree t p b.terms b.steps b.hole
   where
-    go : (tree : StatementTree) → IsSentence s.tokens tree → Passes s tree → body.terms ≡ terms_of s tree → IsVerdictOf body.terms tree v → IsJudged s v
-    go (a_gen name dom cod) t p e h = subst (IsJudged s) (sym h) (accepted t p refl)
-    go (definition name tree) t p e h = subst (IsJudged s) (sym h) (accepted t p refl)
-    go (rule name left equals right) t p e h = subst (IsJudged s) (sym h) (accepted t p refl)
-    go (inclusion imported prefix) t p e h = subst (IsJudged s) (sym h) (accepted t p refl)
-    go (showing name) t p e h = subst (IsJudged s) (sym h) (accepted t p refl)
-    go (rewrite name first steps) t p e h = by_steps t p (subst (λ terms. IsVerdictOnSteps terms steps v) e h)
+    go : (tree : StatementTree) → IsSentence s.tokens tree → Passes s tree → body.terms ≡ terms_of s tree → reasons_of body.steps ≡ steps_at s tree → body.hole ≡ has_hole tree
+        → IsVerdictOf body.terms (reasons_of body.steps) body.hole tree v → IsJudged s v
+    go (a_gen name dom cod) t p e f g h = subst (IsJudged s) (sym h) (accepted t p refl)
+    go (definition name tree) t p e f g h = subst (IsJudged s) (sym h) (accepted t p refl)
+    go (rule name left equals right) t p e f g h = subst (IsJudged s) (sym h) (accepted t p refl)
+    go (inclusion imported prefix) t p e f g h = subst (IsJudged s) (sym h) (accepted t p refl)
+    go (showing name) t p e f g h = subst (IsJudged s) (sym h) (accepted t p refl)
+    go (rewrite name first steps) t p e f g h =
+        let tree = rewrite name first steps in
+        by_steps t p (subst (λ terms. IsVerdictOnSteps terms (steps_at s tree) (has_hole tree) v) e
+        (subst (λ reasons. IsVerdictOnSteps body.terms reasons (has_hole tree) v) f
+        (subst (λ hole. IsVerdictOnSteps body.terms (reasons_of body.steps) hole v) g h)))
 
--- a rewrite is not accepted
-steps-accept : (terms : List Morphism) (steps : List StepTree) (v : Verdict) → IsVerdictOnSteps terms steps v → ¬ (v ≡ Accepted)
-steps-accept terms steps v (not_built n) e = absurd cc
-steps-accept terms steps v (differs n d e q f) g = absurd cc
-steps-accept terms steps v (unfinished n d o) e = absurd cc
-steps-accept terms steps v (proved n d o f l x) e = absurd cc
-
--- an accepted statement is no rewrite
-accepted-keyword : (terms : List Morphism) (tree : StatementTree) (v : Verdict) → IsVerdictOf terms tree v → v ≡ Accepted → keyword_of_tree tree ≡ WordRewrite → ⊥
-accepted-keyword terms (a_gen name dom cod) v h e k = absurd cc
-accepted-keyword terms (definition name tree) v h e k = absurd cc
-accepted-keyword terms (rule name left equals right) v h e k = absurd cc
-accepted-keyword terms (inclusion imported prefix) v h e k = absurd cc
-accepted-keyword terms (showing name) v h e k = absurd cc
-accepted-keyword terms (rewrite name first steps) v h e k = steps-accept terms steps v h e
-
--- a proved statement is a rewrite
-proved-keyword : (terms : List Morphism) (tree : StatementTree) (v : Verdict) → IsVerdictOf terms tree v → v ≡ Proved → keyword_of_tree tree ≡ WordRewrite
-proved-keyword terms (a_gen name dom cod) v h e = let both : Accepted ≡ Proved = sym h ∙ e in absurd cc
-proved-keyword terms (definition name tree) v h e = let both : Accepted ≡ Proved = sym h ∙ e in absurd cc
-proved-keyword terms (rule name left equals right) v h e = let both : Accepted ≡ Proved = sym h ∙ e in absurd cc
-proved-keyword terms (inclusion imported prefix) v h e = let both : Accepted ≡ Proved = sym h ∙ e in absurd cc
-proved-keyword terms (showing name) v h e = let both : Accepted ≡ Proved = sym h ∙ e in absurd cc
-proved-keyword terms (rewrite name first steps) v h e = refl
+-- the verdict of an accepted statement is not that of a rewrite, and a proved statement is one
+pub good_keyword : (terms : List Morphism) (reasons : List Reason) (hole : Bool) (tree : StatementTree) (v : Verdict) → IsVerdictOf terms reasons hole tree v
+    → (v ≡ Accepted → keyword_of_tree tree ≡ WordRewrite → ⊥) × (v ≡ Proved → keyword_of_tree tree ≡ WordRewrite)
+good_keyword terms reasons hole (a_gen name dom cod) v h = (λ e k. absurd cc, λ e. let both : Accepted ≡ Proved = sym h ∙ e in absurd cc)
+good_keyword terms reasons hole (definition name tree) v h = (λ e k. absurd cc, λ e. let both : Accepted ≡ Proved = sym h ∙ e in absurd cc)
+good_keyword terms reasons hole (rule name left equals right) v h = (λ e k. absurd cc, λ e. let both : Accepted ≡ Proved = sym h ∙ e in absurd cc)
+good_keyword terms reasons hole (inclusion imported prefix) v h = (λ e k. absurd cc, λ e. let both : Accepted ≡ Proved = sym h ∙ e in absurd cc)
+good_keyword terms reasons hole (showing name) v h = (λ e k. absurd cc, λ e. let both : Accepted ≡ Proved = sym h ∙ e in absurd cc)
+good_keyword terms reasons hole (rewrite name first steps) v h = (λ e k. never (steps-bad terms reasons hole v h) e, λ e. refl)
+  where
+    never : (v ≡ Proved) ⊎ IsBad v → v ≡ Accepted → ⊥
+    never (inl p) e = let both : Accepted ≡ Proved = sym e ∙ p in absurd cc
+    never (inr bad) e = bad.1 e
 
 -- a sentence that nothing refuses has an outcome with its body
 pub passing_outcome : (s : Site) (tree : StatementTree) (body : Body) (v : Verdict) → IsSentence s.tokens tree → Passes s tree → IsBody s tree body
-    → IsVerdictOf body.terms tree v → IsOutcome s (Some body) v
-passing_outcome s tree body v t p b h = record {
-  elaborates = record { tree = tree; is_sentence = t; passes = p; is_body = b };
-  accepted = λ e. (refl, λ r. accepted-keyword body.terms tree v h e (sentence-is_rewrite s.tokens tree t r));
-  proved = λ e. (refl, rewrite-begins s.tokens tree t (proved-keyword body.terms tree v h e));
-}
+    → IsVerdictOf body.terms (reasons_of body.steps) body.hole tree v → IsOutcome s (Some body) v
+passing_outcome s tree body v t p b h =
+    let good = good_keyword body.terms (reasons_of body.steps) body.hole tree v h in
+    record {
+      elaborates = record { tree = tree; is_sentence = t; passes = p; is_body = b };
+      accepted = λ e. (refl, λ r. good.0 e (sentence-is_rewrite s.tokens tree t r));
+      proved = λ e. (refl, rewrite-begins s.tokens tree t (good.1 e));
+    }
 
 -- a statement that isn't good has an outcome without one
 pub bad_outcome : (s : Site) (v : Verdict) → IsBad v → IsOutcome s None v
@@ -103,11 +101,19 @@ refused_outcome s tree v r = bad_outcome s v (refused-bad s tree v r)
 pub syntax_outcome : (s : Site) (k : ℕ) → IsOutcome s None (Syntax k)
 syntax_outcome s k = bad_outcome s (Syntax k) (λ p. absurd cc, λ p. absurd cc)
 
--- a rewrite has a term
-pub rewrite_terms : (s : Site) (tree : StatementTree) (terms : List Morphism) → terms ≡ terms_of s tree → is_rewrite tree ≡ true → 0 < length terms
-rewrite_terms s (a_gen name dom cod) terms e h = absurd (false≢true h)
-rewrite_terms s (definition name tree) terms e h = absurd (false≢true h)
-rewrite_terms s (rule name left equals right) terms e h = absurd (false≢true h)
-rewrite_terms s (inclusion imported prefix) terms e h = absurd (false≢true h)
-rewrite_terms s (showing name) terms e h = absurd (false≢true h)
-rewrite_terms s (rewrite name first steps) terms e h = subst (λ ts. 0 < length ts) (sym e) (omega arith)
+-- a rewrite has at most one term more than steps
+pub rewrite_steps : (s : Site) (tree : StatementTree) (body : Body) → IsBody s tree body → is_rewrite tree ≡ true → length body.terms ≤ length body.steps + 1
+rewrite_steps s tree body b r =
+    let few = go tree r in
+    let terms = ap length b.terms in
+    let reasons = ap length b.steps in
+    let steps = length-map body.steps reason_of in
+    omega arith
+  where
+    go : (tree : StatementTree) → is_rewrite tree ≡ true → length (terms_of s tree) ≤ length (steps_at s tree) + 1
+    go (a_gen name dom cod) h = absurd (false≢true h)
+    go (definition name tree) h = absurd (false≢true h)
+    go (rule name left equals right) h = absurd (false≢true h)
+    go (inclusion imported prefix) h = absurd (false≢true h)
+    go (showing name) h = absurd (false≢true h)
+    go (rewrite name first steps) h = let few = goals-few s steps in omega arith

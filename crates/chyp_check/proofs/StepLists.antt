@@ -1,75 +1,100 @@
--- Searching through lists, and the terms that steps join.
-use Rattle.std.proofs.Common.{◌≡◌, ℕ, zero, suc, ◌+◌, ◌-◌, ◌<◌, ◌≤◌, Bool, true, false, ◌||◌, List, [], ◌∷◌, length, map, Option, Some, slice_get, slice_index_or, All, refl, sym, ◌∙◌, ap, subst, arith, ◌⊎◌, inl, inr}
+-- The steps of a rewrite, one by one.
+use Rattle.std.proofs.Common.{◌≡◌, ℕ, zero, suc, ◌+◌, ◌-◌, ◌<◌, ◌≤◌, Bool, true, false, ◌||◌, List, [], ◌∷◌, length, Some, None, slice_get, slice_index_or, refl, sym, ◌∙◌, ap, subst, arith, ◌⊎◌, inl, inr, All}
 use Rattle.std.proofs.lemmas.Bool.{cases_lt}
-use Rattle.std.specs.List.{list_any}
-use Rattle.chyp_term.specs.Derivation.{Derives, IsEquation}
+use Rattle.std.proofs.lemmas.List.{length-map}
+use Rattle.chyp_term.specs.Derivation.{IsEquation}
 use Rattle.chyp_term.specs.Morphism.{Morphism}
+use Rattle.chyp_term.specs.Step.{Reason, reason_of, reasons_of}
+use Rattle.chyp_term.specs.declared.step.Step.{Step}
+use Rattle.chyp_judge.specs.Judged.{CanBeJudged, IsJudgement}
+use Rattle.chyp_judge.specs.declared.judged.Judged.{Judged}
+use Rattle.chyp_judge.specs.declared.judged.Judged.TheVariants.{Differs, Good, NoRewrite, TooWide}
 use Rattle.chyp_names.specs.Typing.{AreTypedAlike}
-use Rattle.chyp_check.specs.Steps.{AreDerived, equations_between}
-use Rattle.chyp_check.proofs.OneVerdict.{slice_get-read}
+use Rattle.chyp_verdicts.specs.Steps.{AreGood, AreUsable, IsUsable, Move, is_by_simp, moves_of, needs_simp, refusal_at, rules_of}
+use Rattle.chyp_verdicts.proofs.OneVerdict.{slice_get-read, some-once}
+use Rattle.chyp_verdicts.proofs.SomeVerdict.{usable-judged}
+use Rattle.chyp_verdicts.proofs.Texts.{get-there}
 
--- none of the items passes the test
-abbrev pub NonePass : {A B : Type 0} → (B → Bool) → (A → B) → List A → ℕ → Type 0
-NonePass {A} test f xs n = (k : ℕ) (x : A) → k < n → slice_get xs k ≡ Some x → test (f x) ≡ false
+-- the first k steps are not by `simp`
+abbrev pub NonePass : List Move → ℕ → Type 0
+NonePass moves k = (j : ℕ) (move : Move) → j < k → slice_get moves j ≡ Some move → is_by_simp move.reason ≡ false
 
-pub none-passes : {A B : Type 0} (test : B → Bool) (f : A → B) (xs : List A) → NonePass test f xs (length xs) → list_any test (map f xs) ≡ false
-none-passes test f [] none = refl
-none-passes test f (x ∷ xs) none =
-    let rest = none-passes test f xs (λ k y h e. none (suc k) y (omega arith) e) in
-    ap (λ b. b || list_any test (map f xs)) (none 0 x (omega arith) refl) ∙ rest
+pub none-passes : (moves : List Move) → NonePass moves (length moves) → needs_simp moves ≡ false
+none-passes [] none = refl
+none-passes (m ∷ ms) none = ap (λ b. b || needs_simp ms) (none 0 m (omega arith) refl) ∙ none-passes ms (λ j n h e. none (suc j) n (omega arith) e)
 
-pub one-passes : {A B : Type 0} (test : B → Bool) (f : A → B) (xs : List A) (k : ℕ) (x : A) → slice_get xs k ≡ Some x → test (f x) ≡ true → list_any test (map f xs) ≡ true
-one-passes test f [] k x e h = absurd cc
-one-passes test f (y ∷ ys) zero x e h = let same : y ≡ x = cc in ap (λ z. test (f z) || list_any test (map f ys)) same ∙ ap (λ b. b || list_any test (map f ys)) h
-one-passes test f (y ∷ ys) (suc k) x e h = ap (λ b. test (f y) || b) (one-passes test f ys k x e h) ∙ or-true (test (f y))
+pub one-passes : (moves : List Move) (k : ℕ) (move : Move) → slice_get moves k ≡ Some move → is_by_simp move.reason ≡ true → needs_simp moves ≡ true
+one-passes [] k move e h = absurd cc
+one-passes (m ∷ ms) zero move e h = let same : m ≡ move = cc in ap (λ (x : Move). is_by_simp x.reason || needs_simp ms) same ∙ ap (λ b. b || needs_simp ms) h
+one-passes (m ∷ ms) (suc k) move e h = ap (λ b. is_by_simp m.reason || b) (one-passes ms k move e h) ∙ or-true (is_by_simp m.reason)
   where
     or-true : (b : Bool) → (b || true) ≡ true
     or-true true = refl
     or-true false = refl
 
--- the equation at a place is that of the term there and the next one
-pub equation-at : (terms : List Morphism) (k : ℕ) (s t : Morphism) → slice_get terms k ≡ Some s → slice_get terms (suc k) ≡ Some t → slice_get (equations_between terms) k ≡ Some (s, t)
-equation-at [] k s t e f = absurd cc
-equation-at (a ∷ []) zero s t e f = absurd cc
-equation-at (a ∷ []) (suc k) s t e f = absurd cc
-equation-at (a ∷ b ∷ rest) zero s t e f = let x : a ≡ s = cc in let y : b ≡ t = cc in cc
-equation-at (a ∷ b ∷ rest) (suc k) s t e f = equation-at (b ∷ rest) k s t e f
-
--- there is one equation less than there are terms
-pub length-equations : (terms : List Morphism) → length (equations_between terms) ≡ length terms - 1
-length-equations [] = refl
-length-equations (a ∷ []) = refl
-length-equations (a ∷ b ∷ rest) = let r = length-equations (b ∷ rest) in omega arith
-
--- one equation more is derived
-pub derived-more : (equations : List (Morphism × Morphism)) (k : ℕ) (s t : Morphism) → AreDerived equations k → slice_get equations k ≡ Some (s, t) → Derives [] s t → AreDerived equations (suc k)
-derived-more equations k s t front e d j a b h f = go (cases_lt j k)
+pub passes-none : (moves : List Move) (k : ℕ) (move : Move) → needs_simp moves ≡ false → slice_get moves k ≡ Some move → is_by_simp move.reason ≡ false
+passes-none moves k move none e = go (is_by_simp move.reason) refl
   where
-    go : (j < k) ⊎ (k ≤ j) → Derives [] a b
-    go (inl i) = front j a b i f
-    go (inr i) =
-        let same : j ≡ k = omega arith in
-        let both : ◌≡◌ {A = Option (Morphism × Morphism)} (Some (s, t)) (Some (a, b)) = sym e ∙ ap (slice_get equations) (sym same) ∙ f in
-        let is : ◌≡◌ {A = Morphism × Morphism} (s, t) (a, b) = cc in
-        subst (λ (p : Morphism × Morphism). Derives [] p.0 p.1) is d
+    go : (b : Bool) → is_by_simp move.reason ≡ b → is_by_simp move.reason ≡ false
+    go false h = h
+    go true h = let both : true ≡ false = sym (one-passes moves k move e h) ∙ none in absurd cc
 
--- one item more doesn't pass the test
-pub none-more : {A B : Type 0} (test : B → Bool) (f : A → B) (xs : List A) (n : ℕ) (x : A) → NonePass test f xs n → slice_get xs n ≡ Some x → test (f x) ≡ false → NonePass test f xs (n + 1)
-none-more test f xs n x none at no' k y h e = go (cases_lt k n)
+-- the step at a place goes from the term there to the next one
+pub move-at : (terms : List Morphism) (reasons : List Reason) (k : ℕ) (r : Reason) (s t : Morphism) → slice_get reasons k ≡ Some r → slice_get terms k ≡ Some s → slice_get terms (suc k) ≡ Some t
+    → slice_get (moves_of terms reasons) k ≡ Some (record { reason = r; from = s; to = t })
+move-at [] reasons k r s t d e f = absurd cc
+move-at (a ∷ []) reasons zero r s t d e f = absurd cc
+move-at (a ∷ []) reasons (suc k) r s t d e f = absurd cc
+move-at (a ∷ b ∷ rest) [] k r s t d e f = absurd cc
+move-at (a ∷ b ∷ rest) (c ∷ reasons) zero r s t d e f = let x : a ≡ s = cc in let y : b ≡ t = cc in let z : c ≡ r = cc in cc
+move-at (a ∷ b ∷ rest) (c ∷ reasons) (suc k) r s t d e f = move-at (b ∷ rest) reasons k r s t d e f
+
+-- there is one step less than there are terms
+pub length-moves : (terms : List Morphism) (reasons : List Reason) → length terms ≤ length reasons + 1 → length (moves_of terms reasons) ≡ length terms - 1
+length-moves [] reasons h = refl
+length-moves (a ∷ []) reasons h = refl
+length-moves (a ∷ b ∷ rest) [] h = absurd (omega arith)
+length-moves (a ∷ b ∷ rest) (r ∷ reasons) h = let l = length-moves (b ∷ rest) reasons (omega arith) in omega arith
+
+-- one step more is not by `simp`
+pub none-more : (moves : List Move) (k : ℕ) (move : Move) → NonePass moves k → slice_get moves k ≡ Some move → is_by_simp move.reason ≡ false → NonePass moves (suc k)
+none-more moves k move front e no' j other h f = go (cases_lt j k)
   where
-    go : (k < n) ⊎ (n ≤ k) → test (f y) ≡ false
-    go (inl i) = none k y i e
+    go : (j < k) ⊎ (k ≤ j) → is_by_simp other.reason ≡ false
+    go (inl i) = front j other i f
     go (inr i) =
-        let same : k ≡ n = omega arith in
-        let both : Some x ≡ Some y = sym at ∙ ap (slice_get xs) (sym same) ∙ e in
-        let is : x ≡ y = cc in
-        ap (λ z. test (f z)) (sym is) ∙ no'
+        let same : k ≡ j = omega arith in
+        let is : move ≡ other = some-once (slice_get moves j) move other (ap (slice_get moves) (sym same) ∙ e) f in
+        ap (λ (m : Move). is_by_simp m.reason) (sym is) ∙ no'
 
--- the term at a place
-pub term-at : (terms : List Morphism) (k : ℕ) (t : Morphism) → k < length terms → t ≡ slice_index_or terms k t → slice_get terms k ≡ Some t
-term-at [] k t h e = absurd (omega arith)
-term-at (x ∷ xs) zero t h e = ap Some (sym e)
-term-at (x ∷ xs) (suc k) t h e = term-at xs k t (omega arith) e
+-- one step more is good
+pub good-more : (moves : List Move) (k : ℕ) (move : Move) → AreGood moves k → slice_get moves k ≡ Some move → IsJudgement move.reason move.from move.to Good → AreGood moves (suc k)
+good-more moves k move front e is j other h f = go (cases_lt j k)
+  where
+    go : (j < k) ⊎ (k ≤ j) → IsJudgement other.reason other.from other.to Good
+    go (inl i) = front j other i f
+    go (inr i) =
+        let same : k ≡ j = omega arith in
+        let one : move ≡ other = some-once (slice_get moves j) move other (ap (slice_get moves) (sym same) ∙ e) f in
+        subst (λ (m : Move). IsJudgement m.reason m.from m.to Good) one is
+
+-- what gives no verdict is good
+pub no-refusal : (n : ℕ) (j : Judged) → refusal_at n j ≡ None → j ≡ Good
+no-refusal n Good e = refl
+no-refusal n Differs e = absurd cc
+no-refusal n (NoRewrite k) e = absurd cc
+no-refusal n (TooWide k) e = absurd cc
+
+-- the item at a place
+pub item-at : {A : Type 0} (xs : List A) (k : ℕ) (x : A) → k < length xs → x ≡ slice_index_or xs k x → slice_get xs k ≡ Some x
+item-at [] k x h e = absurd (omega arith)
+item-at (y ∷ ys) zero x h e = ap Some (sym e)
+item-at (y ∷ ys) (suc k) x h e = item-at ys k x (omega arith) e
+
+pub reason-at : (steps : List Step) (k : ℕ) (step : Step) → slice_get steps k ≡ Some step → slice_get (reasons_of steps) k ≡ Some (reason_of step)
+reason-at [] k step e = absurd cc
+reason-at (s ∷ ss) zero step e = let same : s ≡ step = cc in ap (λ x. Some (reason_of x)) same
+reason-at (s ∷ ss) (suc k) step e = reason-at ss k step e
 
 -- two of the terms are an equation
 pub typed-at : (terms : List Morphism) (j k : ℕ) (s t : Morphism) → AreTypedAlike terms → slice_get terms j ≡ Some s → slice_get terms k ≡ Some t → IsEquation s t
@@ -77,3 +102,20 @@ typed-at terms j k s t alike e f =
     let a = slice_get-read terms j s e in
     let b = slice_get-read terms k t f in
     subst (IsEquation s) b.1 (subst (λ m. IsEquation m (slice_index_or terms k t)) a.1 (alike j s a.0 k t b.0))
+
+-- the step at a place can be judged, where it isn't by `simp`
+pub judged-at : (reasons : List Reason) (k : ℕ) (r : Reason) → AreUsable reasons → slice_get reasons k ≡ Some r → is_by_simp r ≡ false → CanBeJudged r
+judged-at reasons k r can e s =
+    let a = slice_get-read reasons k r e in
+    usable-judged r s (subst (λ x. All IsUsable (rules_of x)) a.1 (can k r a.0))
+
+pub length-reasons : (steps : List Step) → length (reasons_of steps) ≡ length steps
+length-reasons steps = length-map steps reason_of
+
+-- the step between two terms that are there
+pub move-there : (terms : List Morphism) (steps : List Step) (k : ℕ) (step : Step) → k + 1 < length terms → slice_get steps k ≡ Some step
+    → (from : Morphism) × (to : Morphism) × (slice_get (moves_of terms (reasons_of steps)) k ≡ Some (record { reason = reason_of step; from = from; to = to }))
+move-there terms steps k step h e =
+    let from = get-there terms k (omega arith) in
+    let to = get-there terms (suc k) (omega arith) in
+    (from.0, to.0, move-at terms (reasons_of steps) k (reason_of step) from.0 to.0 (reason-at steps k step e) from.1 to.1)

@@ -5,8 +5,8 @@ ghost use Rattle.chyp_lex.specs.Tokens.{AreSpans, text_limit};
 ghost use Rattle.chyp_syntax.specs.Chunk.{AreChunks};
 ghost use Rattle.chyp_env.specs.ChunkView.{IsLent, site_of};
 ghost use Rattle.chyp_names.specs.Binding.{Binds};
-ghost use Rattle.chyp_check.specs.Judged.{IsJudged};
-ghost use Rattle.chyp_check.specs.Verdicts.{AreVerdicts};
+ghost use Rattle.chyp_verdicts.specs.Judged.{IsJudged};
+ghost use Rattle.chyp_verdicts.specs.Texts.{AreVerdicts};
 
 use crate::one::judge_statement;
 use crate::{Inputs, Verdicts};

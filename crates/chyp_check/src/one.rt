@@ -5,7 +5,9 @@ ghost use Rattle.chyp_syntax.specs.Statement.{statement_of};
 ghost use Rattle.chyp_env.specs.ChunkView.{IsLent, site_of};
 ghost use Rattle.chyp_names.specs.Binding.{IsOutcome};
 ghost use Rattle.chyp_names.specs.Typing.{AreTypedAlike};
-ghost use Rattle.chyp_check.specs.Judged.{IsJudged, IsVerdictOf, is_rewrite};
+ghost use Rattle.chyp_term.specs.Step.{reasons_of};
+ghost use Rattle.chyp_verdicts.specs.Judged.{IsJudged, IsVerdictOf, is_rewrite};
+ghost use Rattle.chyp_verdicts.specs.Steps.{AreUsable};
 
 use crate::Inputs;
 use crate::steps::verdict_on_steps;
@@ -26,13 +28,12 @@ pub(crate) struct Outcome {
 fn verdict_of(alloc: Global, ast: &Ast, body: &Body) -> Result<Verdict, NoMemory>
     requires few { length body.now.terms < 2 ^ 32 }
     requires alike { AreTypedAlike body.now.terms }
-    requires first { is_rewrite (statement_of ast.now) ≡ true → 0 < length body.now.terms }
-    ensures { IfOk result (λ verdict. IsVerdictOf body.now.terms (statement_of ast.now) verdict) }
+    requires enough { is_rewrite (statement_of ast.now) ≡ true → length body.now.terms ≤ length body.now.steps + 1 }
+    requires usable { AreUsable (reasons_of body.now.steps) }
+    ensures { IfOk result (λ verdict. IsVerdictOf body.now.terms (reasons_of body.now.steps) body.now.hole (statement_of ast.now) verdict) }
 {
     match ast {
-        Ast::RewriteDecl { steps, .. } => {
-            verdict_on_steps(alloc, body.terms.as_slice(), steps.as_slice())
-        }
+        Ast::RewriteDecl { .. } => verdict_on_steps(alloc, body),
         _ => Ok(Verdict::Accepted),
     }
 }
@@ -54,6 +55,7 @@ fn judge_sentence(alloc: Global, inputs: &Inputs<'_>, ast: &Ast) -> Result<Outco
         }
         Err(ElabError::NoMemory) => return Err(NoMemory),
     };
+    inputs.env.sound();
     let verdict = verdict_of(alloc, ast, &body)?;
     let body = Some(body);
     Ok(Outcome { verdict, body })

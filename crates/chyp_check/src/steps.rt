@@ -1,107 +1,106 @@
 // The verdict on a rewrite that nothing refuses, by its steps.
-ghost use Rattle.std.specs.Prelude.{◌≡◌, ◌≤◌, ◌<◌, ◌+◌, ◌^◌, ℕ, IfOk, IfNone, IfSome, length, map};
-ghost use Rattle.std.specs.List.{list_any};
-ghost use Rattle.chyp_syntax.specs.Step.{step_of};
+ghost use Rattle.std.specs.Prelude.{◌≡◌, ◌≤◌, ◌<◌, ◌+◌, ◌-◌, ◌^◌, false, IfOk, IfNone, IfSome, length};
 ghost use Rattle.chyp_term.specs.Derivation.{IsEquation};
-ghost use Rattle.chyp_judge.specs.Judged.{IsJudgement};
+ghost use Rattle.chyp_term.specs.Step.{reason_of, reasons_of};
+ghost use Rattle.chyp_judge.specs.Judged.{CanBeJudged, IsJudgement};
 ghost use Rattle.chyp_names.specs.Typing.{AreTypedAlike};
-ghost use Rattle.chyp_check.specs.Steps.{AreDerived, FailsAtStep, IsVerdictOnSteps, equations_between, is_hole, is_open, needs_rules, rests_on_rules};
+ghost use Rattle.chyp_verdicts.specs.Steps.{AreGood, AreUsable, IsVerdictOnSteps, StopsWith, is_by_simp, is_open, moves_of, needs_simp, refusal_at};
 
 use chyp_base::{NoMemory, Verdict};
 use chyp_judge::{Judged, judge};
-use chyp_names::KnownTerm;
-use chyp_syntax::{ReasonAst, StepAst};
+use chyp_names::{Body, KnownTerm};
 use chyp_term::Step;
 use std::alloc::Global;
 
-// Whether a step leads to a term and has a `by`.
-fn rests_on_rules(step: &StepAst) -> bool
-    ensures { result ≡ rests_on_rules (step_of step.now) }
+// Whether a step is by `simp`.
+fn is_by_simp(step: &Step) -> bool
+    ensures { result ≡ is_by_simp (reason_of step.now) }
 {
-    step.goal.is_some() && !matches!(step.reason, ReasonAst::Plain)
+    matches!(step, Step::Simp(_))
 }
 
-// Whether a step leads to no term.
-fn is_hole(step: &StepAst) -> bool
-    ensures { result ≡ is_hole (step_of step.now) }
+// Whether some step that leads to a term is by `simp`.
+fn needs_simp(terms: &[KnownTerm], steps: &[Step]) -> bool
+    requires enough { length terms.now ≤ length steps.now + 1 }
+    ensures { result ≡ needs_simp (moves_of terms.now (reasons_of steps.now)) }
 {
-    step.goal.is_none()
-}
-
-// Whether some step that leads to a term has a `by`.
-fn needs_rules(steps: &[StepAst]) -> bool
-    ensures { result ≡ needs_rules (map step_of steps.now) }
-{
-    for step in steps {
-        if rests_on_rules(step) {
+    for at in 1..terms.len() {
+        if is_by_simp(&steps[at - 1]) {
             return true;
         }
     }
     false
 }
 
-// Whether some step is a hole.
-fn has_hole(steps: &[StepAst]) -> bool
-    ensures { result ≡ list_any is_hole (map step_of steps.now) }
+// The verdict of a rewrite whose step of this number is judged so.
+fn refusal_at(step: u32, judged: Judged) -> Option<Verdict>
+    ensures { result ≡ refusal_at step judged }
 {
-    for step in steps {
-        if is_hole(step) {
-            return true;
-        }
+    match judged {
+        Judged::Good => None,
+        Judged::Differs => Some(Verdict::Differs { step }),
+        Judged::NoRewrite { occurrences } => Some(Verdict::NoRewrite { step, occurrences }),
+        Judged::TooWide { placements } => Some(Verdict::TooWide { step, placements }),
     }
-    false
 }
 
-// Whether a rewrite has no step, or a hole.
-fn is_open(steps: &[StepAst]) -> bool
-    ensures { result ≡ is_open (map step_of steps.now) }
-{
-    steps.is_empty() || has_hole(steps)
-}
-
-// Whether the laws derive the equation of two terms of one type.
-fn judged(alloc: Global, from: &KnownTerm, to: &KnownTerm) -> Result<Judged, NoMemory>
-    requires { IsEquation from.now to.now }
-    ensures { IfOk result (IsJudgement from.now to.now) }
+// How the step from one term to another of its type is judged.
+fn judged(alloc: Global, from: &KnownTerm, to: &KnownTerm, step: &Step) -> Result<Judged, NoMemory>
+    requires equation { IsEquation from.now to.now }
+    requires step { CanBeJudged (reason_of step.now) }
+    ensures { IfOk result (λ judged. IsJudgement (reason_of step.now) from.now to.now judged) }
 {
     from.small();
     to.small();
-    judge(alloc, from.term(), to.term(), &Step::Refl)
+    judge(alloc, from.term(), to.term(), step)
 }
 
-// The number, from 1, of the first step whose equation the laws don't derive.
-fn first_underived(alloc: Global, terms: &[KnownTerm]) -> Result<Option<u32>, NoMemory>
+// The verdict of the first step that isn't good.
+fn first_refused(
+    alloc: Global,
+    terms: &[KnownTerm],
+    steps: &[Step],
+) -> Result<Option<Verdict>, NoMemory>
     requires alike { AreTypedAlike terms.now }
     requires few { length terms.now < 2 ^ 32 }
-    ensures some { IfOk result (λ found. IfSome found (λ step. FailsAtStep terms.now step)) }
-    ensures none { IfOk result (λ found. IfNone found (AreDerived (equations_between terms.now) (length (equations_between terms.now)))) }
+    requires enough { length terms.now ≤ length steps.now + 1 }
+    requires usable { AreUsable (reasons_of steps.now) }
+    requires plain { needs_simp (moves_of terms.now (reasons_of steps.now)) ≡ false }
+    ensures some { IfOk result (λ found. IfSome found (λ verdict. StopsWith (moves_of terms.now (reasons_of steps.now)) verdict)) }
+    ensures none { IfOk result (λ found. IfNone found (AreGood (moves_of terms.now (reasons_of steps.now)) (length terms.now - 1))) }
 {
     for at in 1..terms.len() {
-        match judged(alloc, &terms[at - 1], &terms[at])? {
-            Judged::Good => {}
-            Judged::Differs => return Ok(Some(at as u32)),
+        let judged = judged(alloc, &terms[at - 1], &terms[at], &steps[at - 1])?;
+        if let Some(verdict) = refusal_at(at as u32, judged) {
+            return Ok(Some(verdict));
         }
     }
     Ok(None)
 }
 
-/// The verdict on a rewrite with these terms and steps.
-pub(crate) fn verdict_on_steps(
-    alloc: Global,
-    terms: &[KnownTerm],
-    steps: &[StepAst],
-) -> Result<Verdict, NoMemory>
-    requires some { 0 < length terms.now }
-    requires alike { AreTypedAlike terms.now }
-    requires few { length terms.now < 2 ^ 32 }
-    ensures { IfOk result (λ verdict. IsVerdictOnSteps terms.now (map step_of steps.now) verdict) }
+// Whether a rewrite has no step, or a hole.
+fn is_open(body: &Body) -> bool
+    ensures { result ≡ is_open (reasons_of body.now.steps) body.now.hole }
 {
-    if needs_rules(steps) {
+    body.steps.as_slice().is_empty() || body.hole
+}
+
+/// The verdict on a rewrite that means this.
+pub(crate) fn verdict_on_steps(alloc: Global, body: &Body) -> Result<Verdict, NoMemory>
+    requires alike { AreTypedAlike body.now.terms }
+    requires few { length body.now.terms < 2 ^ 32 }
+    requires enough { length body.now.terms ≤ length body.now.steps + 1 }
+    requires usable { AreUsable (reasons_of body.now.steps) }
+    ensures { IfOk result (λ verdict. IsVerdictOnSteps body.now.terms (reasons_of body.now.steps) body.now.hole verdict) }
+{
+    let terms = body.terms.as_slice();
+    let steps = body.steps.as_slice();
+    if needs_simp(terms, steps) {
         return Ok(Verdict::NotBuilt);
     }
-    match first_underived(alloc, terms)? {
-        Some(step) => Ok(Verdict::Differs { step }),
-        None if is_open(steps) => Ok(Verdict::Unfinished),
+    match first_refused(alloc, terms, steps)? {
+        Some(verdict) => Ok(verdict),
+        None if is_open(body) => Ok(Verdict::Unfinished),
         None => Ok(Verdict::Proved),
     }
 }

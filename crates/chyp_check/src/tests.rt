@@ -19,7 +19,6 @@ fn checked<G: Ledger>(alloc: Global, text: &[u8], blank: Blank) -> Result<Verdic
     requires some { 0 < G.parts }
 {
     each_name_is_text();
-    each_text_has_one_list_of_verdicts();
     let mut steps = Steps::<G>::new(blank);
     let tokens = lex(alloc, text, b"")?;
     let chunks = chunks(alloc, &tokens)?;

@@ -141,7 +141,15 @@ pub(crate) fn typed(alloc: Global, words: &str) -> Result<Term, Fail>
     ensures within { IfOk result (λ term. IsWithinLimits (morphism_of term)) }
     ensures small { IfOk result (λ term. size_of (morphism_of term) ≤ most_size) }
 {
-    let term = term(alloc, words)?;
+    checked(alloc, term(alloc, words)?)
+}
+
+/// The term, which is typed and within the limits.
+pub(crate) fn checked(alloc: Global, term: Term) -> Result<Term, Fail>
+    ensures typed { IfOk result (λ term. IsTyped (morphism_of term)) }
+    ensures within { IfOk result (λ term. IsWithinLimits (morphism_of term)) }
+    ensures small { IfOk result (λ term. size_of (morphism_of term) ≤ most_size) }
+{
     if is_good(alloc, &term) {
         return Ok(term);
     }

@@ -5,6 +5,16 @@
 pub enum Judged {
     /// It leads from the one to the other.
     Good,
-    /// It does not.
+    /// The monoidal laws alone don't give the equation of the two terms.
     Differs,
+    /// The rule rewrites the first term to the other one in no context.
+    NoRewrite {
+        /// How many convex occurrences the left side of the rule has in the first term.
+        occurrences: u64,
+    },
+    /// The left side of the rule has too many placements in the first term for the step to be judged.
+    TooWide {
+        /// How many there are, or 2^64 - 1 where there are more.
+        placements: u64,
+    },
 }

@@ -1,13 +1,19 @@
 //! Judgements on the steps of rewrites: whether a step leads from one term to the next one.
 //!
-//! [`judge`] compares the graphs of the two terms. Where the step is by the monoidal laws alone, they
-//! are isomorphic exactly where the laws derive the equation, so it answers [`Judged::Good`] only where
-//! there is a derivation and [`Judged::Differs`] only where there is none.
+//! [`judge`] answers by the graphs of the terms. A step without a rule is [`Judged::Good`] exactly where
+//! the monoidal laws derive the equation of its terms, which is where their graphs are isomorphic. A step
+//! by a rule is good exactly where the rule, in some context, rewrites the first term to the second, which
+//! is where the graph of the first, with some convex occurrence of the left side replaced by the right
+//! side, is isomorphic to that of the second (Bonchi, Gadducci, Kissinger, Sobociński and Zanasi, String
+//! Diagram Rewrite Theory II). A rule with more than [`MOST_PLACEMENTS`] placements is not tried.
 #![tactic(auto)]
 
 mod judged;
+mod limits;
+mod rewrite;
 mod step;
 
 pub use chyp_term::{Equation, Step};
 pub use judged::Judged;
+pub use limits::MOST_PLACEMENTS;
 pub use step::judge;

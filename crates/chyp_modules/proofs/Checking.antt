@@ -5,14 +5,13 @@ use Rattle.std.specs.Prelude.{Contains}
 use Rattle.std.specs.Str.{bytes_eq}
 use Rattle.chyp_lex.specs.Tokens.{text_limit}
 use Rattle.chyp_lex.specs.declared.token.Token.{Token}
-use Rattle.chyp_check.proofs.OneVerdict.{some-once, none-some}
+use Rattle.chyp_verdicts.proofs.OneVerdict.{some-once, none-some}
 use Rattle.chyp_modules.specs.Library.{Library, IsModule, with_main}
 use Rattle.chyp_modules.specs.Import.{Imports, ImportsNothing, LeadsTo, Reaches, at_once, by_way_of}
-use Rattle.chyp_modules.specs.Table.{Account}
 use Rattle.chyp_modules.specs.Laws.{HasOneListOfVerdicts}
 use Rattle.chyp_modules.specs.Checking.{most_modules, AreDistinct, IsWanted, AreWanted, AreAllWanted, HaveStatements, of_none, of_more, Result, too_long, checked, Gives, long_text, long_module, many_modules, all_checked, TextsHaveOneResult}
-use Rattle.chyp_modules.proofs.Bindings.{Contains-cons, Contains-from_cons, Contains-from_filter, Contains-filter, names-eq, names-same}
-use Rattle.chyp_modules.proofs.Known.{Known, GivesAtMostOne, GivesSome}
+use Rattle.chyp_verdicts.proofs.Bindings.{Contains-cons, Contains-from_cons, Contains-from_filter, Contains-filter, names-eq, names-same}
+use Rattle.chyp_verdicts.proofs.Known.{Known}
 use Rattle.chyp_modules.proofs.Once.{imports-unique, module-unique}
 use Rattle.chyp_modules.proofs.Reaching.{SomeImport, begins, import-or-not, statements-there, without, without-shorter, differ-not, reaches-step}
 use Rattle.chyp_modules.proofs.Verdicts.{modules-determined}
@@ -132,32 +131,32 @@ count-once known library (x ∷ xs) ys m n d e f g (of_more {text} {statements} 
 cons-distinct : (library : Library) (names : Names) → AreAllWanted library names → (others : Names) → AreAllWanted library others → (name : List ℕ) → Contains names name → Contains others name
 cons-distinct library names a others b name c = let w = a.0.each name c in b.1 name w.0 w.1
 
-gives-once : (Has : Account) → Known → GivesAtMostOne Has → GivesSome Has → (library : Library) (text : List ℕ) (a b : Result) → Gives Has library text a → Gives Has library text b → a ≡ b
-gives-once Has known once some library text a b (long_text l) (long_text m) = refl
-gives-once Has known once some library text a b (long_text l) (long_module m w k) = refl
-gives-once Has known once some library text a b (long_text l) (many_modules m w k) = refl
-gives-once Has known once some library text a b (long_text l) (all_checked m w k s v h) = absurd (omega arith)
-gives-once Has known once some library text a b (long_module l w k) (long_text m) = refl
-gives-once Has known once some library text a b (long_module l w k) (long_module m x j) = refl
-gives-once Has known once some library text a b (long_module l w k) (many_modules m x j) = refl
-gives-once Has known once some library text a b (long_module {name} {whole} l w k) (all_checked m x j s v h) = let short = s name whole w in absurd (omega arith)
-gives-once Has known once some library text a b (many_modules l w k) (long_text m) = refl
-gives-once Has known once some library text a b (many_modules l w k) (long_module m x j) = refl
-gives-once Has known once some library text a b (many_modules l w k) (many_modules m x j) = refl
-gives-once Has known once some library text a b (many_modules {names} l w k) (all_checked {names = others} m x j s v h) =
+gives-once : Known → (library : Library) (text : List ℕ) (a b : Result) → Gives library text a → Gives library text b → a ≡ b
+gives-once known library text a b (long_text l) (long_text m) = refl
+gives-once known library text a b (long_text l) (long_module m w k) = refl
+gives-once known library text a b (long_text l) (many_modules m w k) = refl
+gives-once known library text a b (long_text l) (all_checked m w k s v h) = absurd (omega arith)
+gives-once known library text a b (long_module l w k) (long_text m) = refl
+gives-once known library text a b (long_module l w k) (long_module m x j) = refl
+gives-once known library text a b (long_module l w k) (many_modules m x j) = refl
+gives-once known library text a b (long_module {name} {whole} l w k) (all_checked m x j s v h) = let short = s name whole w in absurd (omega arith)
+gives-once known library text a b (many_modules l w k) (long_text m) = refl
+gives-once known library text a b (many_modules l w k) (long_module m x j) = refl
+gives-once known library text a b (many_modules l w k) (many_modules m x j) = refl
+gives-once known library text a b (many_modules {names} l w k) (all_checked {names = others} m x j s v h) =
     let few = no-more names others w.distinct (λ name c. let q = w.each name c in x.1 name q.0 q.1) in absurd (omega arith)
-gives-once Has known once some library text a b (all_checked m w k s v h) (long_text l) = absurd (omega arith)
-gives-once Has known once some library text a b (all_checked m x j s v h) (long_module {name} {whole} l w k) = let short = s name whole w in absurd (omega arith)
-gives-once Has known once some library text a b (all_checked {names = others} m x j s v h) (many_modules {names} l w k) =
+gives-once known library text a b (all_checked m w k s v h) (long_text l) = absurd (omega arith)
+gives-once known library text a b (all_checked m x j s v h) (long_module {name} {whole} l w k) = let short = s name whole w in absurd (omega arith)
+gives-once known library text a b (all_checked {names = others} m x j s v h) (many_modules {names} l w k) =
     let few = no-more names others w.distinct (λ name c. let q = w.each name c in x.1 name q.0 q.1) in absurd (omega arith)
-gives-once Has known once some library text a b (all_checked {names} {verdicts} {checks} m w k s v h) (all_checked {names = others} {verdicts = vs} {checks = n} l x j r u i) =
+gives-once known library text a b (all_checked {names} {verdicts} {checks} m w k s v h) (all_checked {names = others} {verdicts = vs} {checks = n} l x j r u i) =
     ap₂ checked (one.only verdicts v ∙ sym (one.only vs u)) counts
   where
     W : Library
     W = with_main library text
 
-    one : HasOneListOfVerdicts Has W []
-    one = (modules-determined Has known once some W [] text refl (names, λ other whole reached there. w.1 other whole (record { reached = reached; there = there }))).1
+    one : HasOneListOfVerdicts W []
+    one = (modules-determined known W [] text refl (names, λ other whole reached there. w.1 other whole (record { reached = reached; there = there }))).1
 
     counts : checks ≡ n
     counts = go h i
@@ -329,20 +328,20 @@ counted known library (x ∷ xs) there = go (there x (0, omega arith, refl)) (co
     go : (text : List ℕ) × (library x ≡ Some text) → (n : ℕ) × HaveStatements library xs n → (n : ℕ) × HaveStatements library (x ∷ xs) n
     go (text, e) (n, h) = let ss = statements-there known text in (length ss.0 + n, of_more (record { there = e; are = ss.1 }) h)
 
-record SomeResult (Has : Account) (library : Library) (text : List ℕ) : Type 0 where
+record SomeResult (library : Library) (text : List ℕ) : Type 0 where
   result : Result
-  gives : Gives Has library text result
+  gives : Gives library text result
 
-some-result : (Has : Account) → Known → GivesAtMostOne Has → GivesSome Has → (library : Library) (text : List ℕ) → SomeResult Has library text
-some-result Has known once some library text = sized (cases_lt text_limit (length text))
+some-result : Known → (library : Library) (text : List ℕ) → SomeResult library text
+some-result known library text = sized (cases_lt text_limit (length text))
   where
     W : Library
     W = with_main library text
 
-    all : length text ≤ text_limit → (names : Names) → AreAllWanted W names → length names ≤ most_modules → LongOne W names ⊎ AreShort W names → SomeResult Has library text
+    all : length text ≤ text_limit → (names : Names) → AreAllWanted W names → length names ≤ most_modules → LongOne W names ⊎ AreShort W names → SomeResult library text
     all short names w few (inl l) = record { result = too_long; gives = long_module short (record { reached = (w.0.each l.name l.has).1.reached; there = l.there }) l.long }
     all short names w few (inr s) =
-        let one = (modules-determined Has known once some W [] text refl (names, λ other whole reached there. w.1 other whole (record { reached = reached; there = there }))).1 in
+        let one = (modules-determined known W [] text refl (names, λ other whole reached there. w.1 other whole (record { reached = reached; there = there }))).1 in
         let n = counted known W ([] ∷ names) (λ name c. there name (Contains-from_cons [] names name c)) in
         record { result = checked one.verdicts n.0; gives = all_checked short w few (λ name whole q. s name whole (w.1 name whole q) q.there) one.are n.1 }
       where
@@ -350,16 +349,16 @@ some-result Has known once some library text = sized (cases_lt text_limit (lengt
         there name (inl s) = (text, ap W (sym s))
         there name (inr i) = let q = w.0.each name i in (q.0, q.1.there)
 
-    explored : length text ≤ text_limit → Explored W → SomeResult Has library text
+    explored : length text ≤ text_limit → Explored W → SomeResult library text
     explored short (inl (names, w, few)) = all short names w few (long-or-short W names)
     explored short (inr (names, w, many)) = record { result = too_long; gives = many_modules short w many }
 
-    sized : (text_limit < length text) ⊎ (length text ≤ text_limit) → SomeResult Has library text
+    sized : (text_limit < length text) ⊎ (length text ≤ text_limit) → SomeResult library text
     sized (inl l) = record { result = too_long; gives = long_text l }
     sized (inr h) = explored h (explore known W (most_modules + 1) [] (record { distinct = tt; each = λ name c. absurd (omega (arith, c.1)) }) (omega arith))
 
 -- each text has exactly one result, in every library
-pub texts-have-one-result : (Has : Account) → Known → GivesAtMostOne Has → GivesSome Has → TextsHaveOneResult Has
-texts-have-one-result Has known once some library text =
-    let one = some-result Has known once some library text in
-    record { result = one.result; gives = one.gives; only = λ other g. gives-once Has known once some library text other one.result g one.gives }
+pub texts-have-one-result : Known → TextsHaveOneResult
+texts-have-one-result known library text =
+    let one = some-result known library text in
+    record { result = one.result; gives = one.gives; only = λ other g. gives-once known library text other one.result g one.gives }

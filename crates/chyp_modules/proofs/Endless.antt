@@ -4,12 +4,11 @@ use Rattle.std.proofs.lemmas.Bool.{cases_lt}
 use Rattle.chyp_lex.specs.declared.token.Token.{Token}
 use Rattle.chyp_env.specs.Environment.{Binding}
 use Rattle.chyp_env.specs.Site.{Imported, Site}
-use Rattle.chyp_check.proofs.OneVerdict.{some-once, none-some, slice_get-read}
+use Rattle.chyp_verdicts.proofs.OneVerdict.{some-once, none-some, slice_get-read}
 use Rattle.chyp_modules.specs.Library.{Library, IsModule}
 use Rattle.chyp_modules.specs.Import.{Imports, LeadsTo, Reaches}
-use Rattle.chyp_modules.specs.Table.{Account}
 use Rattle.chyp_modules.specs.Modules.{Makes, at_start, one_more, Stands, stands, Finds, no_import, of_none, of_circle, of_module, HasEnvironment}
-use Rattle.chyp_modules.proofs.Known.{Known}
+use Rattle.chyp_verdicts.proofs.Known.{Known}
 use Rattle.chyp_modules.proofs.Once.{imports-unique, imports-not-nothing, module-unique}
 
 -- each of the modules imports the next, and none reaches itself
@@ -18,15 +17,15 @@ pub record IsEndless (library : Library) (chain : ℕ → List ℕ) : Type 0 whe
   pub straight : (k : ℕ) → ¬ Reaches library (chain k) (chain k)
 
 mutual
-  makes-never : (Has : Account) (library : Library) → Known → (chain : ℕ → List ℕ) → (e : IsEndless library chain) → (name : List ℕ) (number : ℕ) (env : List Binding)
-      → Makes Has library name number env → (k : ℕ) → name ≡ chain k → (e.leads k).number < number → ⊥
-  makes-never Has library known chain e name number env (at_start m) k n h = absurd (omega arith)
-  makes-never Has library known chain e name number env (one_more {number = j} {site = s} st jd x) k n h = stands-never Has library known chain e name j s st k n (omega arith)
+  makes-never : (library : Library) → Known → (chain : ℕ → List ℕ) → (e : IsEndless library chain) → (name : List ℕ) (number : ℕ) (env : List Binding)
+      → Makes library name number env → (k : ℕ) → name ≡ chain k → (e.leads k).number < number → ⊥
+  makes-never library known chain e name number env (at_start m) k n h = absurd (omega arith)
+  makes-never library known chain e name number env (one_more {number = j} {site = s} st jd x) k n h = stands-never library known chain e name j s st k n (omega arith)
 
-  stands-never : (Has : Account) (library : Library) → Known → (chain : ℕ → List ℕ) → (e : IsEndless library chain) → (name : List ℕ) (number : ℕ) (s : Site) → Stands Has library name number s
+  stands-never : (library : Library) → Known → (chain : ℕ → List ℕ) → (e : IsEndless library chain) → (name : List ℕ) (number : ℕ) (s : Site) → Stands library name number s
       → (k : ℕ) → name ≡ chain k → (e.leads k).number ≤ number → ⊥
-  stands-never Has library known chain e name number s (stands {statements} h m at b f) k n l =
-      go (cases_lt (e.leads k).number number) (makes-never Has library known chain e name number s.env b k n) (λ is. finds-never Has library known chain e s.text s.tokens s.imported f k is)
+  stands-never library known chain e name number s (stands {statements} h m at b f) k n l =
+      go (cases_lt (e.leads k).number number) (makes-never library known chain e name number s.env b k n) (λ is. finds-never library known chain e s.text s.tokens s.imported f k is)
     where
       imports-next : (e.leads k).number ≡ number → Imports s.text s.tokens (chain (suc k))
       imports-next same =
@@ -39,26 +38,26 @@ mutual
       go (inl less) before here = before less
       go (inr more) before here = here (imports-next (omega arith))
 
-  finds-never : (Has : Account) (library : Library) → Known → (chain : ℕ → List ℕ) → (e : IsEndless library chain) → (text : List ℕ) (tokens : List Token) (i : Imported)
-      → Finds Has library text tokens i → (k : ℕ) → Imports text tokens (chain (suc k)) → ⊥
-  finds-never Has library known chain e text tokens i (no_import none) k is = imports-not-nothing text tokens (chain (suc k)) none is
-  finds-never Has library known chain e text tokens i (of_none {name} m x) k is =
+  finds-never : (library : Library) → Known → (chain : ℕ → List ℕ) → (e : IsEndless library chain) → (text : List ℕ) (tokens : List Token) (i : Imported)
+      → Finds library text tokens i → (k : ℕ) → Imports text tokens (chain (suc k)) → ⊥
+  finds-never library known chain e text tokens i (no_import none) k is = imports-not-nothing text tokens (chain (suc k)) none is
+  finds-never library known chain e text tokens i (of_none {name} m x) k is =
       none-some (library (chain (suc k))) (e.leads (suc k)).text (ap library (imports-unique known text tokens (chain (suc k)) name is m) ∙ x) (e.leads (suc k)).is_module.there
-  finds-never Has library known chain e text tokens i (of_circle {name} m x r) k is =
+  finds-never library known chain e text tokens i (of_circle {name} m x r) k is =
       e.straight (suc k) (subst (λ y. Reaches library y y) (sym (imports-unique known text tokens (chain (suc k)) name is m)) r)
-  finds-never Has library known chain e text tokens i (of_module {name} {whole} {statements} {env} m x r b) k is =
+  finds-never library known chain e text tokens i (of_module {name} {whole} {statements} {env} m x r b) k is =
       let names = sym (imports-unique known text tokens (chain (suc k)) name is m) in
       let lead = e.leads (suc k) in
       let same = module-unique known library (chain (suc k)) lead.text whole lead.statements statements lead.is_module (subst (λ y. IsModule library y whole statements) names x) in
       let within = (slice_get-read lead.statements lead.number lead.tokens lead.here).0 in
       let lengths : length lead.statements ≡ length statements = ap length same.1 in
-      makes-never Has library known chain e name (length statements) env b (suc k) names (omega arith)
+      makes-never library known chain e name (length statements) env b (suc k) names (omega arith)
 
 -- no module of such a chain has an environment
-pub endless-none : (Has : Account) (library : Library) → Known → (chain : ℕ → List ℕ) → IsEndless library chain → (env : List Binding) → ¬ HasEnvironment Has library (chain 0) env
-endless-none Has library known chain e env h =
+pub endless-none : (library : Library) → Known → (chain : ℕ → List ℕ) → IsEndless library chain → (env : List Binding) → ¬ HasEnvironment library (chain 0) env
+endless-none library known chain e env h =
     let lead = e.leads 0 in
     let same = module-unique known library (chain 0) lead.text h.text lead.statements h.statements lead.is_module h.is_module in
     let within = (slice_get-read lead.statements lead.number lead.tokens lead.here).0 in
     let lengths : length lead.statements ≡ length h.statements = ap length same.1 in
-    makes-never Has library known chain e (chain 0) (length h.statements) env h.makes 0 refl (omega arith)
+    makes-never library known chain e (chain 0) (length h.statements) env h.makes 0 refl (omega arith)

@@ -21,18 +21,17 @@ use Rattle.chyp_term.specs.Halving.{halved_by}
 use Rattle.chyp_env.specs.Site.{Imported, there, Site, binding_at, meaning_at, term_of}
 use Rattle.chyp_names.specs.Binding.{Binds, nothing, again, anew, imports, StandsFor, a_declared_generator, a_term, a_rule, a_proved_rewrite, an_unproved_rewrite, a_broken_statement}
 use Rattle.chyp_names.specs.Elaboration.{expansion_at, fault_of_module, import_fault, prefix_at, terms_of}
-use Rattle.chyp_check.proofs.OneVerdict.{slice_get-read}
-use Rattle.chyp_check.proofs.SomeBinding.{refused-bad}
+use Rattle.chyp_verdicts.proofs.OneVerdict.{slice_get-read}
+use Rattle.chyp_verdicts.proofs.SomeBinding.{refused-bad}
 use Rattle.chyp_modules.specs.Library.{Library}
 use Rattle.chyp_env.specs.Import.{all_passed_on, first_clash, new_in, passed_on}
-use Rattle.chyp_modules.specs.Table.{Account}
-use Rattle.chyp_modules.specs.Judged.{IsJudged, no_sentence, refused, accepted, by_steps}
+use Rattle.chyp_verdicts.specs.Judged.{IsJudged, no_sentence, refused, accepted, by_steps}
 use Rattle.chyp_modules.specs.Modules.{Makes, at_start, one_more, Stands, stands, Finds, no_import, of_none, of_circle, of_module as found}
 use Rattle.chyp_modules.specs.Laws.{IsBoundGenerator, HasBoundGenerators, HasBoundSense, GeneratorsAreBound}
-use Rattle.chyp_modules.proofs.Bindings.{binding-found, import-covers}
-use Rattle.chyp_modules.proofs.Known.{Known, GivesAtMostOne}
+use Rattle.chyp_verdicts.proofs.Bindings.{binding-found, import-covers}
+use Rattle.chyp_verdicts.proofs.Known.{Known}
 use Rattle.chyp_modules.proofs.Meanings.{AreMeant, IsMeantImport, meant-same, stands-meant}
-use Rattle.chyp_modules.proofs.Senses.{goals_at}
+use Rattle.chyp_verdicts.proofs.SomeBinding.{goals_at}
 
 -- ---- more bindings
 
@@ -155,13 +154,13 @@ no-first None e = refl
 no-first (Some name) e = absurd cc
 
 -- where an import is accepted nothing clashes
-no-clash : (Has : Account) → Known → (s : Site) (v : Verdict) (env : List Binding) (word : ℕ) (as_word : Option ℕ) → IsJudged Has s v → v ≡ Accepted → IsSentence s.tokens (inclusion word as_word)
+no-clash : Known → (s : Site) (v : Verdict) (env : List Binding) (word : ℕ) (as_word : Option ℕ) → IsJudged s v → v ≡ Accepted → IsSentence s.tokens (inclusion word as_word)
     → s.imported ≡ there env
     → first_clash s.env (all_passed_on (prefix_at s as_word) env) ≡ None
-no-clash Has known s v env word as_word (no_sentence f) e t i = absurd (f.no_sentence (inclusion word as_word) t)
-no-clash Has known s v env word as_word (refused {tree} u r) e t i = absurd ((refused-bad s tree v r).1 e)
-no-clash Has known s v env word as_word (by_steps {name} {first} {steps} u p x) e t i = let same = known.trees s.tokens (inclusion word as_word) (rewrite name first steps) t u in absurd cc
-no-clash Has known s v env word as_word (accepted {tree} u p m) e t i =
+no-clash known s v env word as_word (no_sentence f) e t i = absurd (f.no_sentence (inclusion word as_word) t)
+no-clash known s v env word as_word (refused {tree} u r) e t i = absurd ((refused-bad s tree v r).1 e)
+no-clash known s v env word as_word (by_steps {name} {first} {steps} u p x) e t i = let same = known.trees s.tokens (inclusion word as_word) (rewrite name first steps) t u in absurd cc
+no-clash known s v env word as_word (accepted {tree} u p m) e t i =
     let fits : import_fault s (inclusion word as_word) ≡ None = subst (λ x. import_fault s x ≡ None) (known.trees s.tokens tree (inclusion word as_word) u t) p.fits in
     no-first (first_clash s.env (all_passed_on (prefix_at s as_word) env)) (subst (λ x. fault_of_module s.env x (prefix_at s as_word) ≡ None) i fits)
 
@@ -171,56 +170,56 @@ IsBoundImport (there env) = AreBound env
 IsBoundImport _ = Unit {0}
 
 -- what is bound in a module is bound behind its import
-import-bound : (Has : Account) (library : Library) → Known → GivesAtMostOne Has → (here bs : List Binding) (prefix : Option (List ℕ)) → AreMeant Has library here → AreMeant Has library bs
+import-bound : (library : Library) → Known → (here bs : List Binding) (prefix : Option (List ℕ)) → AreMeant library here → AreMeant library bs
     → first_clash here (all_passed_on prefix bs) ≡ None → Covers bs (here ++ new_in here (all_passed_on prefix bs))
-import-bound Has library known once here bs prefix meant there' none name dom cod g = go (import-covers here bs prefix none g.binding g.has)
+import-bound library known here bs prefix meant there' none name dom cod g = go (import-covers here bs prefix none g.binding g.has)
   where
     next : List Binding
     next = here ++ new_in here (all_passed_on prefix bs)
 
     go : (c : Binding) × Contains next c × (c.origin ≡ g.binding.origin) × ((c ≡ passed_on prefix g.binding) ⊎ Contains here c) → IsBoundGenerator next name dom cod
     go (c, has, same, inl e) = record { binding = c; has = has; is = ap (λ (b : Binding). b.sense) e ∙ g.is }
-    go (c, has, same, inr old) = record { binding = c; has = has; is = meant-same Has library known once here bs meant there' c g.binding old g.has same ∙ g.is }
+    go (c, has, same, inr old) = record { binding = c; has = has; is = meant-same library known here bs meant there' c g.binding old g.has same ∙ g.is }
 
-binds-bound : (Has : Account) (library : Library) → Known → GivesAtMostOne Has → (s : Site) (n : ℕ) (v : Verdict) (next : List Binding) → AreMeant Has library s.env
-    → IsMeantImport Has library s.imported → AreBound s.env → IsBoundImport s.imported
-    → IsJudged Has s v → Binds s n v next → AreBound next
-binds-bound Has library known once s n v next meant im bound ib j (nothing e o) = bound
-binds-bound Has library known once s n v next meant im bound ib j (again e f) = bound
-binds-bound Has library known once s n v next meant im bound ib j (anew {name} {sense} e f x) =
+binds-bound : (library : Library) → Known → (s : Site) (n : ℕ) (v : Verdict) (next : List Binding) → AreMeant library s.env
+    → IsMeantImport library s.imported → AreBound s.env → IsBoundImport s.imported
+    → IsJudged s v → Binds s n v next → AreBound next
+binds-bound library known s n v next meant im bound ib j (nothing e o) = bound
+binds-bound library known s n v next meant im bound ib j (again e f) = bound
+binds-bound library known s n v next meant im bound ib j (anew {name} {sense} e f x) =
     let b : Binding = record { name = name; origin = (s.home, n); sense = sense } in
     let after = s.env ++ b ∷ [] in
     let P : Binding → Type 0 = λ c. HasBoundSense after c.sense in
     All-append P s.env (b ∷ []) (λ k d h. sense-covered s.env after (covers-append s.env (b ∷ [])) _ (bound k d h)) (All-cons P b [] (sense-bound s bound v sense x name (s.home, n)) (All-nil P))
-binds-bound Has library known once s n v next meant im bound ib j (imports {word} {as_word} {env} f t i) =
-    let none = no-clash Has known s v env word as_word j f t i in
+binds-bound library known s n v next meant im bound ib j (imports {word} {as_word} {env} f t i) =
+    let none = no-clash known s v env word as_word j f t i in
     let prefix = prefix_at s as_word in
     let all = all_passed_on prefix env in
     let after = s.env ++ new_in s.env all in
-    let covers = import-bound Has library known once s.env env prefix meant (subst (IsMeantImport Has library) i im) none in
+    let covers = import-bound library known s.env env prefix meant (subst (IsMeantImport library) i im) none in
     let theirs : AreBound env = subst IsBoundImport i ib in
     let P : Binding → Type 0 = λ c. HasBoundSense after c.sense in
     All-append P s.env (new_in s.env all) (λ k d h. sense-covered s.env after (covers-append s.env (new_in s.env all)) _ (bound k d h))
     (All-filter _ P all (All-map P (passed_on prefix) env (λ k d h. sense-covered env after covers _ (theirs k d h))))
 
 mutual
-  pub makes-bound : (Has : Account) (library : Library) → Known → GivesAtMostOne Has → (name : List ℕ) (number : ℕ) (env : List Binding) → Makes Has library name number env → AreBound env
-  makes-bound Has library known once name number env (at_start m) = All-nil _
-  makes-bound Has library known once name number env (one_more {number = k} {site = s} {verdict = v} st j x) =
-      let meant = stands-meant Has library name k s st in
-      let bound = stands-bound Has library known once name k s st in
-      binds-bound Has library known once s k v env meant.0 meant.1 bound.0 bound.1 j x
+  pub makes-bound : (library : Library) → Known → (name : List ℕ) (number : ℕ) (env : List Binding) → Makes library name number env → AreBound env
+  makes-bound library known name number env (at_start m) = All-nil _
+  makes-bound library known name number env (one_more {number = k} {site = s} {verdict = v} st j x) =
+      let meant = stands-meant library name k s st in
+      let bound = stands-bound library known name k s st in
+      binds-bound library known s k v env meant.0 meant.1 bound.0 bound.1 j x
 
-  pub stands-bound : (Has : Account) (library : Library) → Known → GivesAtMostOne Has → (name : List ℕ) (number : ℕ) (s : Site) → Stands Has library name number s → AreBound s.env
+  pub stands-bound : (library : Library) → Known → (name : List ℕ) (number : ℕ) (s : Site) → Stands library name number s → AreBound s.env
       × IsBoundImport s.imported
-  stands-bound Has library known once name number s (stands h m e k f) = (makes-bound Has library known once name number s.env k, finds-bound Has library known once s.text s.tokens s.imported f)
+  stands-bound library known name number s (stands h m e k f) = (makes-bound library known name number s.env k, finds-bound library known s.text s.tokens s.imported f)
 
-  finds-bound : (Has : Account) (library : Library) → Known → GivesAtMostOne Has → (text : List ℕ) (tokens : List Token) (i : Imported) → Finds Has library text tokens i → IsBoundImport i
-  finds-bound Has library known once text tokens i (no_import n) = tt
-  finds-bound Has library known once text tokens i (of_none m e) = tt
-  finds-bound Has library known once text tokens i (of_circle m e r) = tt
-  finds-bound Has library known once text tokens i (found {name} {statements} {env} m f r k) = makes-bound Has library known once name (length statements) env k
+  finds-bound : (library : Library) → Known → (text : List ℕ) (tokens : List Token) (i : Imported) → Finds library text tokens i → IsBoundImport i
+  finds-bound library known text tokens i (no_import n) = tt
+  finds-bound library known text tokens i (of_none m e) = tt
+  finds-bound library known text tokens i (of_circle m e r) = tt
+  finds-bound library known text tokens i (found {name} {statements} {env} m f r k) = makes-bound library known name (length statements) env k
 
 -- each generator of a term that a name stands for has a binding of its own in the same environment
-pub generators-bound : (Has : Account) → Known → GivesAtMostOne Has → GeneratorsAreBound Has
-generators-bound Has known once library name number env m b c = All-contains (λ (x : Binding). HasBoundSense env x.sense) env b (makes-bound Has library known once name number env m) c
+pub generators-bound : Known → GeneratorsAreBound
+generators-bound known library name number env m b c = All-contains (λ (x : Binding). HasBoundSense env x.sense) env b (makes-bound library known name number env m) c

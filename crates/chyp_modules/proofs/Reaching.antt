@@ -9,13 +9,13 @@ use Rattle.chyp_syntax.specs.Failing.{IsSentenceOrFails}
 use Rattle.chyp_syntax.specs.Heading.{text_at}
 use Rattle.chyp_syntax.specs.Sentence.{IsSentence}
 use Rattle.chyp_syntax.specs.Statement.{StatementTree, generator, definition, rule, rewrite, inclusion, showing}
-use Rattle.chyp_check.specs.Verdicts.{statements_of}
-use Rattle.chyp_check.proofs.OneVerdict.{none-some}
+use Rattle.chyp_verdicts.specs.Texts.{statements_of}
+use Rattle.chyp_verdicts.proofs.OneVerdict.{none-some}
 use Rattle.chyp_modules.specs.Library.{Library, AreStatements}
 use Rattle.chyp_modules.specs.Import.{Imports, ImportsNothing, LeadsTo, Reaches, at_once, by_way_of}
 use Rattle.chyp_modules.specs.Laws.{ReachesOnly}
-use Rattle.chyp_modules.proofs.Bindings.{Contains-cons, Contains-from_cons, Contains-filter, names-eq, names-same}
-use Rattle.chyp_modules.proofs.Known.{Known}
+use Rattle.chyp_verdicts.proofs.Bindings.{Contains-cons, Contains-from_cons, Contains-filter, names-eq, names-same}
+use Rattle.chyp_verdicts.proofs.Known.{Known}
 use Rattle.chyp_modules.proofs.Once.{imports-unique, module-unique}
 
 -- ---- texts and imports

@@ -7,7 +7,6 @@ use Rattle.chyp_lex.specs.declared.token.Token.{Token}
 use Rattle.chyp_modules.specs.Import.{Reaches}
 use Rattle.chyp_modules.specs.Library.{Library, IsModule, with_main}
 use Rattle.chyp_modules.specs.Modules.{AreVerdicts}
-use Rattle.chyp_modules.specs.Table.{Account}
 
 -- the most modules that may be there
 abbrev pub most_modules : ℕ
@@ -46,24 +45,24 @@ pub data Result : Type 0 where
 
 -- What checking gives for a library with a main text. Where that text or that of a module that is wanted passes its limit, or
 -- more modules than allowed are wanted and there, nothing is checked. Else all statements of the text and of those modules are.
-pub data Gives (Has : Account) (library : Library) (text : List ℕ) : Result → Type 0 where
-  long_text : text_limit < length text → Gives Has library text too_long
+pub data Gives (library : Library) (text : List ℕ) : Result → Type 0 where
+  long_text : text_limit < length text → Gives library text too_long
   long_module : {name whole : List ℕ} → length text ≤ text_limit → IsWanted (with_main library text) name whole → text_limit < length whole
-      → Gives Has library text too_long
+      → Gives library text too_long
   many_modules : {names : List (List ℕ)} → length text ≤ text_limit → AreWanted (with_main library text) names → most_modules < length names
-      → Gives Has library text too_long
+      → Gives library text too_long
   all_checked : {names : List (List ℕ)} {verdicts : List Verdict} {checks : ℕ} → length text ≤ text_limit
       → AreAllWanted (with_main library text) names → length names ≤ most_modules
       → ((name whole : List ℕ) → IsWanted (with_main library text) name whole → length whole ≤ text_limit)
-      → AreVerdicts Has (with_main library text) [] verdicts
-      → HaveStatements (with_main library text) ([] ∷ names) checks → Gives Has library text (checked verdicts checks)
+      → AreVerdicts (with_main library text) [] verdicts
+      → HaveStatements (with_main library text) ([] ∷ names) checks → Gives library text (checked verdicts checks)
 
 -- a text gives exactly one result
-pub record HasOneResult (Has : Account) (library : Library) (text : List ℕ) : Type 0 where
+pub record HasOneResult (library : Library) (text : List ℕ) : Type 0 where
   pub result : Result
-  pub gives : Gives Has library text result
-  pub only : (other : Result) → Gives Has library text other → other ≡ result
+  pub gives : Gives library text result
+  pub only : (other : Result) → Gives library text other → other ≡ result
 
 -- so it is for every text in every library, also one without end
-abbrev pub TextsHaveOneResult : Account → Type 0
-TextsHaveOneResult Has = (library : Library) (text : List ℕ) → HasOneResult Has library text
+abbrev pub TextsHaveOneResult : Type 0
+TextsHaveOneResult = (library : Library) (text : List ℕ) → HasOneResult library text

@@ -1,24 +1,18 @@
 -- What holds of the modules of a library.
-use Rattle.std.specs.Prelude.{◌≡◌, ℕ, List, [], Option, None, Some, length, ◌-◌, slice_get, Contains, find}
+use Rattle.std.specs.Prelude.{◌≡◌, ℕ, List, [], Option, None, Some, Contains, find}
 use Rattle.std.specs.Option.{option_map_or}
 use Rattle.std.specs.Str.{bytes_eq}
 use Rattle.chyp_base.specs.declared.sort.Sort.{Sort}
 use Rattle.chyp_base.specs.declared.verdict.Verdict.{Verdict}
 use Rattle.chyp_base.specs.declared.verdict.Verdict.TheVariants.{Proved}
-use Rattle.chyp_syntax.specs.Sentence.{IsSentence}
-use Rattle.chyp_syntax.specs.Statement.{rewrite}
-use Rattle.chyp_syntax.specs.Step.{StepTree}
-use Rattle.chyp_syntax.specs.Term.{TermTree}
 use Rattle.chyp_term.specs.Morphism.{Morphism, generator as a_generator, permutation, then, beside}
 use Rattle.chyp_env.specs.Environment.{Sense, generator, abbreviation, law, unproved, broken, Binding}
 use Rattle.chyp_env.specs.Site.{Site}
-use Rattle.chyp_names.specs.Elaboration.{terms_of}
+use Rattle.chyp_verdicts.specs.Judged.{IsJudged}
+use Rattle.chyp_verdicts.specs.Rules.{IsDerived, IsRewriteOf}
 use Rattle.chyp_modules.specs.Import.{Reaches}
-use Rattle.chyp_modules.specs.Judged.{IsJudged}
 use Rattle.chyp_modules.specs.Library.{Library, with_main}
-use Rattle.chyp_modules.specs.Modules.{Makes, Stands, HasEnvironment, AreVerdicts}
-use Rattle.chyp_modules.specs.Rules.{IsDerived}
-use Rattle.chyp_modules.specs.Table.{Account}
+use Rattle.chyp_modules.specs.Modules.{Makes, Stands, HasEnvironment, AreVerdicts, standing}
 
 -- all modules that are there and that this one reaches are among these
 abbrev pub ReachesOnly : Library → List (List ℕ) → List ℕ → Type 0
@@ -34,40 +28,36 @@ library_of modules name = option_map_or (λ (m : List ℕ × Option (List ℕ)).
     (find (λ (m : List ℕ × Option (List ℕ)). bytes_eq name m.0) modules) None
 
 -- a module makes exactly one environment
-pub record HasOneEnvironment (Has : Account) (library : Library) (name : List ℕ) : Type 0 where
+pub record HasOneEnvironment (library : Library) (name : List ℕ) : Type 0 where
   pub env : List Binding
-  pub has : HasEnvironment Has library name env
-  pub only : (other : List Binding) → HasEnvironment Has library name other → other ≡ env
+  pub has : HasEnvironment library name env
+  pub only : (other : List Binding) → HasEnvironment library name other → other ≡ env
 
 -- its statements get exactly one list of verdicts
-pub record HasOneListOfVerdicts (Has : Account) (library : Library) (name : List ℕ) : Type 0 where
+pub record HasOneListOfVerdicts (library : Library) (name : List ℕ) : Type 0 where
   pub verdicts : List Verdict
-  pub are : AreVerdicts Has library name verdicts
-  pub only : (others : List Verdict) → AreVerdicts Has library name others → others ≡ verdicts
+  pub are : AreVerdicts library name verdicts
+  pub only : (others : List Verdict) → AreVerdicts library name others → others ≡ verdicts
 
 -- so it is for each module that is there and reaches finitely many, in whatever circles others import one another
-abbrev pub ModulesAreDetermined : Account → Type 0
-ModulesAreDetermined Has = (library : Library) (name text : List ℕ) → library name ≡ Some text → ReachesFinitelyMany library name
-    → HasOneEnvironment Has library name × HasOneListOfVerdicts Has library name
+abbrev pub ModulesAreDetermined : Type 0
+ModulesAreDetermined = (library : Library) (name text : List ℕ) → library name ≡ Some text → ReachesFinitelyMany library name
+    → HasOneEnvironment library name × HasOneListOfVerdicts library name
 
 -- and so for each main text, over any finitely many modules
-abbrev pub TextsAreDetermined : Account → Type 0
-TextsAreDetermined Has = (modules : List (List ℕ × Option (List ℕ))) (text : List ℕ)
-    → HasOneEnvironment Has (with_main (library_of modules) text) [] × HasOneListOfVerdicts Has (with_main (library_of modules) text) []
+abbrev pub TextsAreDetermined : Type 0
+TextsAreDetermined = (modules : List (List ℕ × Option (List ℕ))) (text : List ℕ)
+    → HasOneEnvironment (with_main (library_of modules) text) [] × HasOneListOfVerdicts (with_main (library_of modules) text) []
 
 -- a rewrite that is proved has a derivation, from its first term to its last, from rules that are permitted to it
-abbrev pub ProvedRewritesAreDerived : Account → Type 0
-ProvedRewritesAreDerived Has = (library : Library) (home : List ℕ) (number : ℕ) (site : Site) → Stands Has library home number site
-    → IsJudged Has site Proved
-    → (name : ℕ) (tree : TermTree) (steps : List StepTree) → IsSentence site.tokens (rewrite name tree steps) → (first last : Morphism)
-    → slice_get (terms_of site (rewrite name tree steps)) 0 ≡ Some first
-    → slice_get (terms_of site (rewrite name tree steps)) (length (terms_of site (rewrite name tree steps)) - 1) ≡ Some last
-    → IsDerived Has library (home, number) first last
+abbrev pub ProvedRewritesAreDerived : Type 0
+ProvedRewritesAreDerived = (library : Library) (home : List ℕ) (number : ℕ) (site : Site) → Stands library home number site
+    → IsJudged site Proved → (first last : Morphism) → IsRewriteOf site first last → IsDerived (standing library) (home, number) first last
 
 -- bindings of one origin have one sense, in all environments that modules of one library make
-abbrev pub OriginsDetermineSenses : Account → Type 0
-OriginsDetermineSenses Has = (library : Library) (name other : List ℕ) (m n : ℕ) (env end : List Binding) → Makes Has library name m env
-    → Makes Has library other n end
+abbrev pub OriginsDetermineSenses : Type 0
+OriginsDetermineSenses = (library : Library) (name other : List ℕ) (m n : ℕ) (env end : List Binding) → Makes library name m env
+    → Makes library other n end
     → (a b : Binding) → Contains env a → Contains end b → a.origin ≡ b.origin → a.sense ≡ b.sense
 
 -- a binding of the environment is that of the generator
@@ -92,6 +82,6 @@ HasBoundSense env unproved = Unit {0}
 HasBoundSense env broken = Unit {0}
 
 -- each generator of a term that a name stands for has a binding of its own in the same environment
-abbrev pub GeneratorsAreBound : Account → Type 0
-GeneratorsAreBound Has = (library : Library) (name : List ℕ) (number : ℕ) (env : List Binding) → Makes Has library name number env
+abbrev pub GeneratorsAreBound : Type 0
+GeneratorsAreBound = (library : Library) (name : List ℕ) (number : ℕ) (env : List Binding) → Makes library name number env
     → (b : Binding) → Contains env b → HasBoundSense env b.sense

@@ -1,9 +1,5 @@
 pub mod Library
 pub mod Import
-pub mod Table
-pub mod Judged
 pub mod Modules
-pub mod Rules
 pub mod Laws
 pub mod Checking
-pub mod Unlimited

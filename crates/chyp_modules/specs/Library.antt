@@ -4,7 +4,7 @@ use Rattle.chyp_lex.specs.Tokens.{AreTokens}
 use Rattle.chyp_lex.specs.declared.token.Token.{Token}
 use Rattle.chyp_syntax.specs.Chunk.{AreChunks}
 use Rattle.chyp_syntax.specs.declared.chunk.Chunk.{Chunk}
-use Rattle.chyp_check.specs.Verdicts.{statements_of}
+use Rattle.chyp_verdicts.specs.Texts.{statements_of}
 
 -- the text of each module, by its name; None where there is no such module
 abbrev pub Library : Type 0

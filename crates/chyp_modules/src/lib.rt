@@ -1,14 +1,11 @@
 //! The modules of a library: their environments, their verdicts, and the rules that their laws rest on.
 //! No code cites them yet.
 //!
-//! These are law functions, whose bodies only call those of the crates below. `Unlimited` stands for the
-//! table of steps until placements, occurrences and `simp` are there.
+//! This is a law function, whose body only calls those of the crates below.
 #![tactic(auto)]
 
 ghost use Rattle.chyp_modules.specs.Checking.{TextsHaveOneResult};
 ghost use Rattle.chyp_modules.specs.Laws.{GeneratorsAreBound, ModulesAreDetermined, OriginsDetermineSenses, ProvedRewritesAreDerived, TextsAreDetermined};
-ghost use Rattle.chyp_modules.specs.Rules.{ProvedRewritesFollow};
-ghost use Rattle.chyp_modules.specs.Unlimited.{Unlimited};
 
 use chyp_laws::{graphs_decide_the_laws, rewrites_are_graphs};
 use chyp_lex::every_text_has_one_token_list;
@@ -19,11 +16,17 @@ use chyp_syntax::{
 use chyp_theory::types_are_decided;
 
 /// Each module that is there, and reaches finitely many, has exactly one environment and one list of
-/// verdicts; so has each main text over finitely many modules; and each text gives exactly one result.
+/// verdicts; so has each main text over finitely many modules; and each text gives exactly one result. A
+/// rewrite that is proved has a derivation from rules that are permitted to it. Entries of one origin
+/// have one meaning in all environments of a library, and each generator of an entry's terms has an
+/// entry of its own.
 pub fn modules_are_determined()
-    ensures modules { ModulesAreDetermined Unlimited }
-    ensures texts { TextsAreDetermined Unlimited }
-    ensures results { TextsHaveOneResult Unlimited }
+    ensures modules { ModulesAreDetermined }
+    ensures texts { TextsAreDetermined }
+    ensures results { TextsHaveOneResult }
+    ensures derived { ProvedRewritesAreDerived }
+    ensures senses { OriginsDetermineSenses }
+    ensures generators { GeneratorsAreBound }
 {
     every_text_has_one_token_list();
     each_text_has_one_list_of_chunks();
@@ -33,32 +36,4 @@ pub fn modules_are_determined()
     types_are_decided();
     graphs_decide_the_laws();
     rewrites_are_graphs();
-}
-
-/// A rewrite that is proved has a derivation from the equations that it cites, and one from rules that
-/// are permitted to it.
-pub fn proved_rewrites_are_derived()
-    ensures follows { ProvedRewritesFollow Unlimited }
-    ensures derived { ProvedRewritesAreDerived Unlimited }
-{
-    every_text_has_one_token_list();
-    each_text_has_one_list_of_chunks();
-    each_chunk_is_a_sentence_or_fails();
-    each_beginning_of_a_prefix_is_one();
-    each_sentence_has_one_tree();
-    types_are_decided();
-}
-
-/// Entries of one origin have one meaning in all environments of a library, and each generator of an
-/// entry's terms has an entry of its own.
-pub fn origins_determine_meanings()
-    ensures senses { OriginsDetermineSenses Unlimited }
-    ensures generators { GeneratorsAreBound Unlimited }
-{
-    every_text_has_one_token_list();
-    each_text_has_one_list_of_chunks();
-    each_chunk_is_a_sentence_or_fails();
-    each_beginning_of_a_prefix_is_one();
-    each_sentence_has_one_tree();
-    types_are_decided();
 }

@@ -4,3 +4,4 @@ pub mod Rebinding
 pub mod Keeping
 pub mod Binding
 pub mod Replacing
+pub mod Sizes

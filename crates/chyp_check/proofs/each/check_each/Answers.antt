@@ -1,15 +1,12 @@
-use Rattle.std.proofs.Common.{◌+◌, ◌<◌, [], zero, length, take, arith, rules, refl, sym, subst, ap, ◌∙◌}
-use Rattle.std.proofs.lemmas.List.{take_all}
+use Rattle.std.proofs.Common.{◌+◌, ◌<◌, length, arith, rules, refl, sym, subst}
 use Rattle.chyp_syntax.proofs.Spans.{here, is_here, statement_spans, tile_within}
-use Rattle.chyp_check.specs.Verdicts.{GetVerdicts, no_more, statements_of}
-use Rattle.chyp_check.proofs.Texts.{chunks_few, spelled, verdicts-length, verdicts-turn}
+use Rattle.chyp_verdicts.specs.Texts.{statements_of}
+use Rattle.chyp_check.proofs.Texts.{AreChecked, chunks_few, none-checked, one-checked, spelled}
 use Rattle.chyp_check.proofs.each.check_each.Goals as goal
 
 pub loop-index-init : goal.loop-index-init
 loop-index-init g c = record {
-  get =
-      subst (λ env. GetVerdicts [] c.args.text.now zero [] [] c.in_ok-verdicts.verdicts.items env) (sym c.new-env.ensures)
-      (subst (λ verdicts. GetVerdicts [] c.args.text.now zero [] [] verdicts []) (sym c.in_ok-verdicts.ensures.items) no_more);
+  checked = none-checked c.args.text.now (statements_of c.args.tokens.now c.args.chunks.now) c.in_ok-verdicts.verdicts.items _ c.in_ok-verdicts.ensures.items c.new-env.ensures;
   ticked = omega arith;
 }
 
@@ -37,22 +34,11 @@ judge_and_bind-requires g c =
 
 pub loop-index-preserved : goal.loop-index-preserved
 loop-index-preserved g c = record {
-  get =
-      subst (λ verdicts. GetVerdicts [] c.args.text.now zero [] (statements_of c.args.tokens.now (take (c.loop-index.index + 1) c.args.chunks.now)) verdicts c.judge_and_bind.new.env)
+  checked =
+      subst (λ verdicts. AreChecked c.args.text.now (statements_of c.args.tokens.now c.args.chunks.now) (c.loop-index.index + 1) verdicts c.judge_and_bind.new.env)
       (sym c.in_ok-push.ensures.items)
-      (verdicts-turn c.args.text.now c.in_ok-home.home c.args.tokens.now c.args.chunks.now c.loop-index.index c.loop-index.verdicts.items c.in_ok-judge_and_bind.field-0 c.loop-index.env
-      c.judge_and_bind.new.env c.chunk_tokens.result.now c.in_ok-home.ensures c.loop-index-test.true c.chunk_tokens.ensures c.loop-index.invariant.get c.in_ok-judge_and_bind.ensures.judged
+      (one-checked c.args.text.now c.in_ok-home.home c.args.tokens.now c.args.chunks.now c.loop-index.index c.loop-index.verdicts.items c.in_ok-judge_and_bind.field-0 c.loop-index.env
+      c.judge_and_bind.new.env c.chunk_tokens.result.now c.in_ok-home.ensures c.loop-index-test.true c.chunk_tokens.ensures c.loop-index.invariant.checked c.in_ok-judge_and_bind.ensures.judged
       c.in_ok-judge_and_bind.ensures.binds);
   ticked = let t = c.loop-index.invariant.ticked in let x = c.tick.ensures in omega arith;
 }
-
-pub returns-clause-count : goal.returns-clause-count
-returns-clause-count g c =
-    let all = take_all c.loop-index.index c.args.chunks.now c.loop-index-test.false in
-    ap length c.from_vec.ensures
-    ∙ verdicts-length c.args.text.now c.args.tokens.now c.args.chunks.now c.loop-index.verdicts.items
-    (record {
-      end = c.loop-index.env;
-      get = subst (λ chunks. GetVerdicts [] c.args.text.now zero [] (statements_of c.args.tokens.now chunks) c.loop-index.verdicts.items c.loop-index.env) all
-          c.loop-index.invariant.get;
-    })

@@ -1,8 +1,10 @@
 use Rattle.std.proofs.Common.{arith, sym, ap, subst, sum_by, None, Err}
 use Rattle.chyp_term.specs.Measure.{size_of}
 use Rattle.chyp_names.specs.Binding.{IsOutcome}
-use Rattle.chyp_check.specs.Judged.{IsJudged, refused}
-use Rattle.chyp_check.proofs.Outcomes.{judged_sentence, passing_outcome, refused_outcome, terms_few}
+use Rattle.chyp_verdicts.specs.Judged.{IsJudged, refused}
+use Rattle.chyp_check.proofs.Outcomes.{judged_sentence, passing_outcome, refused_outcome, rewrite_steps, terms_few}
+use Rattle.chyp_verdicts.specs.Steps.{AreUsable}
+use Rattle.chyp_verdicts.proofs.Cited.{reasons-usable}
 use Rattle.chyp_check.proofs.one.judge_sentence.Goals as goal
 
 pub returns-in-Err-Refused-clause-judged : goal.returns-in-Err-Refused-clause-judged
@@ -27,3 +29,9 @@ verdict_of-requires-clause-few c =
     let same = ap (sum_by size_of) c.in-Ok.ensures.body.terms in
     let together = c.in-Ok.ensures.passes.small.together in
     omega arith
+
+pub verdict_of-requires-clause-enough : goal.verdict_of-requires-clause-enough
+verdict_of-requires-clause-enough c = rewrite_steps _ _ c.in-Ok.body c.in-Ok.ensures.body
+
+pub verdict_of-requires-clause-usable : goal.verdict_of-requires-clause-usable
+verdict_of-requires-clause-usable c = subst AreUsable (sym c.in-Ok.ensures.body.steps) (reasons-usable _ c.sound.ensures _ c.in-Ok.ensures.passes)

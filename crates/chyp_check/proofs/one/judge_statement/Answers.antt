@@ -1,7 +1,7 @@
 use Rattle.std.proofs.Common.{Err, ap, sym, subst}
 use Rattle.chyp_base.specs.declared.verdict.Verdict.TheVariants.{Syntax}
 use Rattle.chyp_env.specs.ChunkView.{site_of}
-use Rattle.chyp_check.specs.Judged.{IsJudged, no_sentence}
+use Rattle.chyp_verdicts.specs.Judged.{IsJudged, no_sentence}
 use Rattle.chyp_check.proofs.Outcomes.{tokens_few}
 use Rattle.chyp_check.proofs.one.judge_statement.Goals as goal
 

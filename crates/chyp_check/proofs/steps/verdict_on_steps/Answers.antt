@@ -1,26 +1,40 @@
-use Rattle.std.proofs.Common.{length, map, IfNone, IfSome, arith, sym, subst, ◌∙◌}
-use Rattle.chyp_syntax.specs.Step.{step_of}
-use Rattle.chyp_check.specs.Steps.{AreDerived, FailsAtStep, equations_between, not_built, unfinished}
-use Rattle.chyp_check.proofs.StepVerdicts.{differs_at, proved_all}
+use Rattle.std.proofs.Common.{◌-◌, length, IfNone, IfSome, ap, arith, sym, subst, ◌∙◌}
+use Rattle.chyp_term.specs.Step.{reasons_of}
+use Rattle.chyp_verdicts.specs.Steps.{AreGood, StopsWith, is_open, judged, moves_of, not_built, proved, stops, unfinished}
+use Rattle.chyp_check.proofs.StepLists.{length-moves, length-reasons}
 use Rattle.chyp_check.proofs.steps.verdict_on_steps.Goals as goal
 
-pub returns-then-needs_rules : goal.returns-then-needs_rules
-returns-then-needs_rules c = not_built (sym c.needs_rules.ensures ∙ c.if-needs_rules.true)
+pub returns-then-needs_simp : goal.returns-then-needs_simp
+returns-then-needs_simp c = rw (sym c.as_slice-terms.ensures) (rw (sym c.as_slice-steps.ensures) (not_built (sym c.needs_simp.ensures ∙ c.if-needs_simp.true)))
 
 pub returns-in-Some : goal.returns-in-Some
 returns-in-Some c =
-    let fails = subst (λ found. IfSome found (λ step. FailsAtStep c.args.terms.now step)) c.in-Some.is c.in_ok-step.ensures.some in
-    differs_at c.args.terms.now (map step_of c.args.steps.now) c.in-Some.step (sym c.needs_rules.ensures ∙ c.if-needs_rules.false) fails
+    let moves = moves_of c.as_slice-terms.result.now (reasons_of c.as_slice-steps.result.now) in
+    let found = subst (λ found. IfSome found (λ verdict. StopsWith moves verdict)) c.in-Some.is c.in_ok-verdict.ensures.some in
+    rw (sym c.as_slice-terms.ensures) (rw (sym c.as_slice-steps.ensures) (judged (sym c.needs_simp.ensures ∙ c.if-needs_simp.false) (stops found)))
 
 pub returns-in-None : goal.returns-in-None
 returns-in-None c =
-    let equations = equations_between c.args.terms.now in
-    unfinished (sym c.needs_rules.ensures ∙ c.if-needs_rules.false) (subst (λ found. IfNone found (AreDerived equations (length equations))) c.in-None.is c.in_ok-step.ensures.none)
-    (sym c.is_open.ensures ∙ c.if-is_open.true)
+    let terms = c.as_slice-terms.result.now in
+    let moves = moves_of terms (reasons_of c.as_slice-steps.result.now) in
+    let good = subst (λ found. IfNone found (AreGood moves (length terms - 1))) c.in-None.is c.in_ok-verdict.ensures.none in
+    let few = length-reasons c.as_slice-steps.result.now in
+    let enough = c.requires.enough in
+    let same = ap length c.as_slice-terms.ensures in
+    let alike = ap length c.as_slice-steps.ensures in
+    let many = length-moves terms (reasons_of c.as_slice-steps.result.now) (omega arith) in
+    let open' = ap (λ steps. is_open (reasons_of steps) c.args.body.now.hole) c.as_slice-steps.ensures ∙ sym c.is_open.ensures ∙ c.if-is_open.true in
+    rw (sym c.as_slice-terms.ensures) (rw (sym c.as_slice-steps.ensures) (judged (sym c.needs_simp.ensures ∙ c.if-needs_simp.false) (unfinished (subst (AreGood moves) (sym many) good) open')))
 
 pub returns-in-None-2 : goal.returns-in-None-2
 returns-in-None-2 c =
-    let equations = equations_between c.args.terms.now in
-    let some = c.requires.some in
-    proved_all c.args.terms.now (map step_of c.args.steps.now) (omega arith) c.requires.alike (sym c.needs_rules.ensures ∙ c.if-needs_rules.false)
-    (sym c.is_open.ensures ∙ c.if-is_open.false) (subst (λ found. IfNone found (AreDerived equations (length equations))) c.in-None-2.is c.in_ok-step.ensures.none)
+    let terms = c.as_slice-terms.result.now in
+    let moves = moves_of terms (reasons_of c.as_slice-steps.result.now) in
+    let good = subst (λ found. IfNone found (AreGood moves (length terms - 1))) c.in-None-2.is c.in_ok-verdict.ensures.none in
+    let few = length-reasons c.as_slice-steps.result.now in
+    let enough = c.requires.enough in
+    let same = ap length c.as_slice-terms.ensures in
+    let alike = ap length c.as_slice-steps.ensures in
+    let many = length-moves terms (reasons_of c.as_slice-steps.result.now) (omega arith) in
+    let closed = ap (λ steps. is_open (reasons_of steps) c.args.body.now.hole) c.as_slice-steps.ensures ∙ sym c.is_open.ensures ∙ c.if-is_open.false in
+    rw (sym c.as_slice-terms.ensures) (rw (sym c.as_slice-steps.ensures) (judged (sym c.needs_simp.ensures ∙ c.if-needs_simp.false) (proved (subst (AreGood moves) (sym many) good) closed)))

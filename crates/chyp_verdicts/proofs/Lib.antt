@@ -1,0 +1,17 @@
+pub mod Known
+pub mod Bindings
+pub mod Derivations
+pub mod Components
+pub mod Placed
+pub mod Judgements
+pub mod Cited
+pub mod OneVerdict
+pub mod OneBinding
+pub mod SomeVerdict
+pub mod SomeBinding
+pub mod Sound
+pub mod Follows
+pub mod Derived
+pub mod Texts
+pub mod Explaining
+pub mod KnownBelow

@@ -1,0 +1,152 @@
+-- The statements of a text: each text has exactly one list of verdicts.
+use Rattle.std.proofs.Common.{◌≡◌, ℕ, zero, suc, ◌<◌, ◌≤◌, Bool, true, false, List, [], ◌∷◌, ◌++◌, Option, Some, None, length, slice_get, ◌⊎◌, inl, inr, refl, sym, ◌∙◌, ap, ap₂, subst, arith}
+use Rattle.std.proofs.lemmas.List.{length-append, length-map}
+use Rattle.std.proofs.lemmas.List.Elements.{All-nil}
+use Rattle.chyp_base.specs.declared.verdict.Verdict.{Verdict}
+use Rattle.chyp_lex.specs.declared.token.Token.{Token}
+use Rattle.chyp_syntax.specs.Heading.{chunk_tokens, declared_name}
+use Rattle.chyp_env.specs.Environment.{Binding, is_bound}
+use Rattle.chyp_env.specs.Site.{nothing as none', Site}
+use Rattle.chyp_env.specs.Sound.{IsSound}
+use Rattle.chyp_names.specs.Binding.{Binds, nothing, again, anew, TakesIn}
+use Rattle.chyp_verdicts.specs.Judged.{IsJudged}
+use Rattle.chyp_verdicts.specs.Standing.{Gets, Origin, Standing}
+use Rattle.chyp_verdicts.specs.Texts.{EachTextHasOneListOfVerdicts, Makes, Stands, at_start, one_more, site, statements_of}
+use Rattle.chyp_verdicts.proofs.Known.{Known}
+use Rattle.chyp_verdicts.proofs.OneBinding.{binds-once}
+use Rattle.chyp_verdicts.proofs.OneVerdict.{judged-once, some-once}
+use Rattle.chyp_verdicts.proofs.SomeBinding.{some-sense}
+use Rattle.chyp_verdicts.proofs.SomeVerdict.{some-verdict}
+use Rattle.chyp_verdicts.proofs.Sound.{binds-sound}
+
+-- ---- lists by their places
+
+pub list-same : {A : Type 0} (xs ys : List A) → length xs ≡ length ys → ((k : ℕ) (x y : A) → slice_get xs k ≡ Some x → slice_get ys k ≡ Some y → x ≡ y) → xs ≡ ys
+list-same [] [] e each = refl
+list-same [] (y ∷ ys) e each = absurd (omega arith)
+list-same (x ∷ xs) [] e each = absurd (omega arith)
+list-same (x ∷ xs) (y ∷ ys) e each = ap₂ (λ z zs. z ∷ zs) (each 0 x y refl refl) (list-same xs ys (omega arith) (λ k a b f g. each (suc k) a b f g))
+
+pub get-push : {A : Type 0} (xs : List A) (x y : A) (k : ℕ) → slice_get (xs ++ x ∷ []) k ≡ Some y → ((k < length xs) × (slice_get xs k ≡ Some y)) ⊎ ((k ≡ length xs) × (x ≡ y))
+get-push [] x y zero e = inr (refl, cc)
+get-push [] x y (suc k) e = absurd cc
+get-push (a ∷ rest) x y zero e = inl (omega arith, e)
+get-push (a ∷ rest) x y (suc k) e = elim (get-push rest x y k e) [ inl h ↦ inl (omega (arith, h.0), h.1) | inr h ↦ inr (ap suc h.0, h.1) ]
+
+pub get-there : {A : Type 0} (xs : List A) (k : ℕ) → k < length xs → (x : A) × (slice_get xs k ≡ Some x)
+get-there [] k h = absurd (omega arith)
+get-there (x ∷ xs) zero h = (x, refl)
+get-there (x ∷ xs) (suc k) h = get-there xs k (omega arith)
+
+-- ---- verdicts of the first statements
+
+-- the first statements, as many as this, get these verdicts
+pub record HaveVerdicts (Stands : Standing) (home : List ℕ) (number : ℕ) (verdicts : List Verdict) : Type 0 where
+  pub many : length verdicts ≡ number
+  pub each : (k : ℕ) (v : Verdict) → slice_get verdicts k ≡ Some v → Gets Stands (home, k) v
+
+pub no-verdicts : (Stands : Standing) (home : List ℕ) → HaveVerdicts Stands home 0 []
+no-verdicts Stands home = record { many = refl; each = λ k v e. absurd cc }
+
+-- one verdict more
+pub push-verdict : (Stands : Standing) (home : List ℕ) (number : ℕ) (verdicts : List Verdict) (v : Verdict) → HaveVerdicts Stands home number verdicts → Gets Stands (home, number) v
+    → HaveVerdicts Stands home (suc number) (verdicts ++ v ∷ [])
+push-verdict Stands home number verdicts v front g = record {
+  many = let many = front.many in let l = length-append verdicts (v ∷ []) in omega arith;
+  each = λ k w e. go k w (get-push verdicts v w k e);
+}
+  where
+    go : (k : ℕ) (w : Verdict) → ((k < length verdicts) × (slice_get verdicts k ≡ Some w)) ⊎ ((k ≡ length verdicts) × (v ≡ w)) → Gets Stands (home, k) w
+    go k w (inl h) = front.each k w h.1
+    go k w (inr h) = subst (λ n. Gets Stands (home, n) w) (sym (h.0 ∙ front.many)) (subst (Gets Stands (home, number)) h.1 g)
+
+-- ---- one text
+
+module _ (known : Known) (text : List ℕ) (ss : List (List Token)) where
+  -- the statement behind those that have made the environment
+  pub stands-behind : (n : ℕ) (env : List Binding) (tokens : List Token) → slice_get ss n ≡ Some tokens → Makes text ss n env → Stands text ss ([], n) (site text env tokens)
+  stands-behind n env tokens at k = record { main = refl; here = at; makes = k; is = refl }
+
+  -- every environment is sound
+  pub makes-sound : (n : ℕ) (env : List Binding) → Makes text ss n env → IsSound env
+  makes-sound n env at_start = record { each = All-nil _; distinct = tt }
+  makes-sound n env (one_more {number = m} {env = before} {statement} {verdict} at k j x) =
+      binds-sound known (site text before statement) m verdict env (makes-sound m before k) tt j x
+
+  -- the first statements make one environment
+  pub makes-unique : (n : ℕ) (a b : List Binding) → Makes text ss n a → Makes text ss n b → a ≡ b
+  makes-unique n a b at_start at_start = refl
+  makes-unique n a b (one_more {number = m} {env = before} {statement = s} {verdict = v} at k j x) (one_more {env = other} {statement = t} {verdict = w} there l h y) =
+      let tokens : s ≡ t = some-once (slice_get ss m) s t at there in
+      let envs : before ≡ other = makes-unique m before other k l in
+      let sites : site text before s ≡ site text other t = ap₂ (site text) envs tokens in
+      let verdicts : v ≡ w = judged-once known (site text before s) v w j (subst (λ p. IsJudged p w) (sym sites) h) in
+      binds-once known.trees (site text before s) m v a b x (subst (λ u. Binds (site text before s) m u b) (sym verdicts) (subst (λ p. Binds p m w b) (sym sites) y))
+
+  -- a statement stands at one site
+  pub stands-unique : (o : Origin) (s t : Site) → Stands text ss o s → Stands text ss o t → s ≡ t
+  stands-unique o s t a b =
+      let tokens : s.tokens ≡ t.tokens = some-once (slice_get ss o.1) s.tokens t.tokens a.here b.here in
+      let envs : s.env ≡ t.env = makes-unique o.1 s.env t.env a.makes b.makes in
+      a.is ∙ ap₂ (site text) envs tokens ∙ sym b.is
+
+  -- and gets one verdict
+  gets-once : (o : Origin) (v w : Verdict) → Gets (Stands text ss) o v → Gets (Stands text ss) o w → v ≡ w
+  gets-once o v w a b =
+      let same = stands-unique o a.site b.site a.stands b.stands in
+      judged-once known a.site v w a.judged (subst (λ p. IsJudged p w) (sym same) b.judged)
+
+  -- what names stand for behind a statement
+  record SomeBinds (s : Site) (n : ℕ) (v : Verdict) : Type 0 where
+    next : List Binding
+    binds : Binds s n v next
+
+  some-binds : (s : Site) (n : ℕ) (v : Verdict) → IsSound s.env → s.imported ≡ none' → IsJudged s v → SomeBinds s n v
+  some-binds s n v sound alone j = go (declared_name s.text s.tokens) refl
+    where
+      go : (o : Option (List ℕ)) → declared_name s.text s.tokens ≡ o → SomeBinds s n v
+      go None e = record { next = s.env; binds = nothing e (λ h. subst (λ i. TakesIn i v) alone h) }
+      go (Some name) e = bound (is_bound s.env name) refl
+        where
+          bound : (b : Bool) → is_bound s.env name ≡ b → SomeBinds s n v
+          bound true i = record { next = s.env; binds = again e i }
+          bound false i =
+              let x = some-sense known.typed s sound v name e j in
+              record { next = s.env ++ record { name = name; origin = (s.home, n); sense = x.sense } ∷ []; binds = anew e i x.stands }
+
+  -- the first statements make some environment, and have verdicts
+  record Made (n : ℕ) : Type 0 where
+    env : List Binding
+    makes : Makes text ss n env
+    verdicts : List Verdict
+    have : HaveVerdicts (Stands text ss) [] n verdicts
+
+  made : (n : ℕ) → n ≤ length ss → Made n
+  made zero h = record { env = []; makes = at_start; verdicts = []; have = no-verdicts (Stands text ss) [] }
+  made (suc n) h =
+      let before = made n (omega arith) in
+      let at = get-there ss n (omega arith) in
+      let s = site text before.env at.0 in
+      let sound = makes-sound n before.env before.makes in
+      let v = some-verdict known s sound in
+      let x = some-binds s n v.verdict sound refl v.gets in
+      record {
+        env = x.next;
+        makes = one_more at.1 before.makes v.gets x.binds;
+        verdicts = before.verdicts ++ v.verdict ∷ [];
+        have = push-verdict (Stands text ss) [] n before.verdicts v.verdict before.have
+            (record { site = s; stands = stands-behind n before.env at.0 at.1 before.makes; judged = v.gets });
+      }
+
+-- each text has exactly one list of verdicts
+pub one-list-of-verdicts : Known → EachTextHasOneListOfVerdicts
+one-list-of-verdicts known text tokens chunks =
+    let ss = statements_of tokens chunks in
+    let all = made known text ss (length ss) (omega arith) in
+    let many : length ss ≡ length chunks = length-map chunks (chunk_tokens tokens) in
+    record {
+      verdicts = all.verdicts;
+      are = record { many = all.have.many ∙ many; each = all.have.each };
+      only = λ others are.
+          list-same others all.verdicts (are.many ∙ sym many ∙ sym all.have.many) (λ k v w e f. gets-once known text ss ([], k) v w (are.each k v e) (all.have.each k w f));
+    }

@@ -1,0 +1,6 @@
+pub mod Steps
+pub mod Judged
+pub mod Standing
+pub mod Rules
+pub mod Texts
+pub mod Explained

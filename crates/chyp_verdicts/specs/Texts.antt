@@ -1,0 +1,51 @@
+-- The verdicts of the statements of a text, one after the other.
+use Rattle.std.specs.Prelude.{◌≡◌, ℕ, zero, suc, List, [], length, map, Some, slice_get}
+use Rattle.chyp_base.specs.declared.verdict.Verdict.{Verdict}
+use Rattle.chyp_lex.specs.declared.token.Token.{Token}
+use Rattle.chyp_syntax.specs.declared.chunk.Chunk.{Chunk}
+use Rattle.chyp_syntax.specs.Heading.{chunk_tokens}
+use Rattle.chyp_env.specs.Environment.{Binding}
+use Rattle.chyp_env.specs.Site.{Site, nothing as nothing'}
+use Rattle.chyp_names.specs.Binding.{Binds}
+use Rattle.chyp_verdicts.specs.Judged.{IsJudged}
+use Rattle.chyp_verdicts.specs.Standing.{Gets, Origin}
+
+-- a statement of a text behind statements that have made this environment
+abbrev pub site : List ℕ → List Binding → List Token → Site
+site text env statement = record { home = []; text = text; env = env; tokens = statement; imported = nothing' }
+
+-- The first statements of a text, as many as this, make this environment: each is judged behind those before it, and binds its
+-- name once it has its verdict. In front of all names stand for nothing.
+pub data Makes (text : List ℕ) (statements : List (List Token)) : ℕ → List Binding → Type 0 where
+  at_start : Makes text statements zero []
+  one_more : {number : ℕ} {env next : List Binding} {statement : List Token} {verdict : Verdict}
+      → slice_get statements number ≡ Some statement → Makes text statements number env
+      → IsJudged (site text env statement) verdict → Binds (site text env statement) number verdict next
+      → Makes text statements (suc number) next
+
+-- the statement of this origin, which is in the main text, stands at this site
+pub record Stands (text : List ℕ) (statements : List (List Token)) (origin : Origin) (at : Site) : Type 0 where
+  pub main : origin.0 ≡ []
+  pub here : slice_get statements origin.1 ≡ Some at.tokens
+  pub makes : Makes text statements origin.1 at.env
+  pub is : at ≡ site text at.env at.tokens
+
+-- the tokens of each chunk
+abbrev pub statements_of : List Token → List Chunk → List (List Token)
+statements_of tokens chunks = map (chunk_tokens tokens) chunks
+
+-- the verdicts of the statements of a text
+pub record AreVerdicts (text : List ℕ) (tokens : List Token) (chunks : List Chunk) (verdicts : List Verdict) : Type 0 where
+  pub many : length verdicts ≡ length chunks
+  pub each : (number : ℕ) (verdict : Verdict) → slice_get verdicts number ≡ Some verdict
+      → Gets (Stands text (statements_of tokens chunks)) ([], number) verdict
+
+-- the statements of a text have exactly one list of verdicts
+pub record HaveOneListOfVerdicts (text : List ℕ) (tokens : List Token) (chunks : List Chunk) : Type 0 where
+  pub verdicts : List Verdict
+  pub are : AreVerdicts text tokens chunks verdicts
+  pub only : (others : List Verdict) → AreVerdicts text tokens chunks others → others ≡ verdicts
+
+-- so it is for every text
+abbrev pub EachTextHasOneListOfVerdicts : Type 0
+EachTextHasOneListOfVerdicts = (text : List ℕ) (tokens : List Token) (chunks : List Chunk) → HaveOneListOfVerdicts text tokens chunks
