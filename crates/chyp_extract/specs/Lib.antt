@@ -3,3 +3,4 @@ pub mod Measuring
 pub mod Rehalving
 pub mod Laws
 pub mod Replacing
+pub mod Placing

@@ -1,0 +1,5 @@
+pub mod Halves
+pub mod Lists
+pub mod Sorting
+pub mod Fronts
+pub mod Places

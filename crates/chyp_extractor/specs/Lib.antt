@@ -1,0 +1,4 @@
+pub mod Joining
+pub mod Rounds
+pub mod Fronts
+pub mod Crossing
