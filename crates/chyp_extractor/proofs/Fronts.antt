@@ -1,5 +1,5 @@
 -- What stands before each round.
-use Rattle.std.proofs.Common.{ℕ, zero, suc, ◌+◌, ◌-◌, ◌<◌, ◌≤◌, ◌^◌, ◌≡◌, Bool, true, false, not, ◌&&◌, List, [], ◌∷◌, ◌++◌, length, take, filter, slice_index, get_or, All, ◌⊎◌, inl, inr, refl, sym, ◌∙◌, ap, ap₂, subst, arith, add-one, append_assoc, length-append}
+use Rattle.std.proofs.Common.{ℕ, zero, suc, ◌+◌, ◌-◌, ◌<◌, ◌≤◌, ◌≡◌, Bool, true, false, not, ◌&&◌, List, [], ◌∷◌, ◌++◌, length, take, filter, All, ◌⊎◌, inl, inr, refl, sym, ◌∙◌, ap, ap₂, subst, arith, add-one, append_assoc, length-append}
 use Rattle.std.proofs.lemmas.Bool.{and_parts, cases_Bool}
 use Rattle.std.proofs.lemmas.List.{get_or_append_left, map-append, take_all}
 use Rattle.chyp_term.specs.declared.term.Term.{Term}
@@ -44,7 +44,7 @@ abbrev pub done_at : PlainGraph → ℕ → List Edge
 done_at g zero = []
 done_at g (suc n) = placed_after g n ++ done_at g n
 
-both_ways : (b c : Bool) → (b ≡ true → c ≡ true) → (c ≡ true → b ≡ true) → b ≡ c
+pub both_ways : (b c : Bool) → (b ≡ true → c ≡ true) → (c ≡ true → b ≡ true) → b ≡ c
 both_ways true c f g = sym (f refl)
 both_ways false true f g = g refl
 both_ways false false f g = refl
@@ -55,7 +55,7 @@ module _ (g : PlainGraph) (v : IsValid g) where
   at-front (suc n) = is-at_next g v (live_at g n) (done_at g n) n (at-front n)
 
   -- the live wires are those that the next round wants, in some order
-  wanted-split : (n : ℕ) → Rearr (live_at g n) (wanted_at g n)
+  pub wanted-split : (n : ℕ) → Rearr (live_at g n) (wanted_at g n)
   wanted-split n =
       let s = at-front n in
       subst (λ es. Rearr (live_at g n) (sources_of es ++ passed_by es (live_at g n))) (ready-is g v (live_at g n) (done_at g n) n s)

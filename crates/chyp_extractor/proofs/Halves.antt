@@ -20,7 +20,7 @@ halved_by-enough {A} none (suc m) (suc n) join (a ∷ b ∷ parts) h k =
     ap₂ join (halved_by-enough none m n join (take half all) (omega arith) (omega arith)) (halved_by-enough none m n join (drop half all) (omega arith) (omega arith))
 
 -- two parts or more are their two halves
-halved_in-join : {A : Type 0} (none : A) (join : A → A → A) (parts : List A) → 2 ≤ length parts
+pub halved_in-join : {A : Type 0} (none : A) (join : A → A → A) (parts : List A) → 2 ≤ length parts
     → halved_in none join parts ≡ join (halved_in none join (take (length parts / 2) parts)) (halved_in none join (drop (length parts / 2) parts))
 halved_in-join none join [] h = absurd (omega arith)
 halved_in-join none join (a ∷ []) h = absurd (omega arith)

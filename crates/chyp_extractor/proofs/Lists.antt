@@ -1,14 +1,12 @@
 -- Lists: members, filters, and lists that grow by one.
-use Rattle.std.proofs.Common.{◌≡◌, ℕ, ◌+◌, ◌<◌, Bool, true, false, not, cond, List, [], ◌∷◌, ◌++◌, length, take, filter, flat_map, map, get_or, Option, Some, slice_get, All, ◌⊎◌, inl, inr, refl, sym, ◌∙◌, ap, ap₂, subst, arith, append_assoc}
+use Rattle.std.proofs.Common.{◌≡◌, ℕ, ◌+◌, Bool, true, false, cond, List, [], ◌∷◌, ◌++◌, take, filter, flat_map, map, Some, slice_get, All, inl, inr, refl, sym, ◌∙◌, ap, ap₂, subst, append_assoc}
 use Rattle.std.specs.List.{cons_option}
-use Rattle.std.proofs.lemmas.Bool.{cases_Bool}
 use Rattle.std.proofs.lemmas.List.{map-append}
 use Rattle.std.proofs.lemmas.Option.{get_or_from_slice_get}
 use Rattle.chyp_term.specs.declared.term.Term.{Term}
 use Rattle.chyp_term.specs.Morphism.{Morphism}
 use Rattle.chyp_term.specs.Perm.{permuted}
 use Rattle.chyp_term.specs.Term.{morphism_of, morphisms_of}
-use Rattle.chyp_term.proofs.Closure.{get-item}
 use Rattle.chyp_term.proofs.Members.{Member, member-get}
 use Rattle.chyp_term.proofs.Permuted.{permuted-append}
 use Rattle.chyp_term.proofs.Positions.{slice_get-length}

@@ -1,5 +1,5 @@
 -- Places of wires among others, read from a table.
-use Rattle.std.proofs.Common.{ℕ, zero, suc, ◌+◌, ◌<◌, ◌≡◌, Bool, true, false, cond, ◌&&◌, eqb, List, [], ◌∷◌, ◌++◌, length, take, drop, map, filter_map, Option, Some, None, slice_get, slice_index, All, ◌⊎◌, inl, inr, refl, sym, ◌∙◌, ap, ap₂, subst, arith, add-zero, append-nil, length-take, take-append-drop, drop-cons, eq-eqb, ne_eqb}
+use Rattle.std.proofs.Common.{ℕ, suc, ◌+◌, ◌<◌, ◌≡◌, Bool, true, false, cond, ◌&&◌, eqb, List, [], ◌∷◌, ◌++◌, length, take, drop, map, Option, Some, None, slice_index, All, inl, inr, refl, sym, ◌∙◌, ap, ap₂, subst, arith, add-zero, append-nil, length-take, take-append-drop, drop-cons, eq-eqb, ne_eqb}
 use Rattle.std.specs.List.{cons_option}
 use Rattle.std.proofs.lemmas.List.{map-append}
 use Rattle.chyp_base.specs.declared.sort.Sort.{Sort}

@@ -1,4 +1,4 @@
-use Rattle.std.proofs.Common.{◌≡◌, ◌∙◌, ap, length, sym}
+use Rattle.std.proofs.Common.{◌∙◌, ap, length, sym}
 use Rattle.chyp_extract.specs.Extraction.{counts_from, places_in}
 use Rattle.chyp_extractor.proofs.Places.{crossing-made, crossing-none, perm-self, places-read}
 use Rattle.chyp_extractor.proofs.crossing.push_crossing.Goals as goal

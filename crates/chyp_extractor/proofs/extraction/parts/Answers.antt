@@ -1,10 +1,10 @@
-use Rattle.std.proofs.Common.{◌≡◌, ◌<◌, ◌≤◌, ◌-◌, ◌++◌, [], ◌∙◌, ap, arith, length, subst, sym}
+use Rattle.std.proofs.Common.{◌≡◌, ◌-◌, ◌++◌, [], ◌∙◌, ap, arith, length, subst, sym}
 use Rattle.chyp_term.specs.Term.{morphisms_of}
-use Rattle.chyp_extract.specs.Extraction.{crossing, parts_from}
+use Rattle.chyp_extract.specs.Extraction.{parts_from}
 use Rattle.chyp_extract.specs.Placing.{left_after}
 use Rattle.chyp_extractor.specs.Crossing.{IsReordered}
 use Rattle.chyp_extractor.specs.Fronts.{live_at}
-use Rattle.chyp_extractor.proofs.Fronts.{end-reordered, parts-end, parts-first, parts-more}
+use Rattle.chyp_extractor.proofs.Fronts.{end-reordered, parts-first, parts-more}
 use Rattle.chyp_extractor.proofs.extraction.parts.Goals as goal
 
 pub loop-n-init : goal.loop-n-init

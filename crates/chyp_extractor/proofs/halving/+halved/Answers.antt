@@ -1,4 +1,4 @@
-use Rattle.std.proofs.Common.{◌≡◌, ◌-◌, ◌/◌, ◌<◌, ◌≤◌, List, length, map, take, drop, arith, ap, ap₂, sym, ◌∙◌, length-take, length-drop}
+use Rattle.std.proofs.Common.{◌≡◌, ◌-◌, ◌/◌, ◌≤◌, List, length, map, take, drop, arith, ap, ap₂, sym, ◌∙◌, length-take, length-drop}
 use Rattle.std.proofs.lemmas.List.{take_rest}
 use Rattle.chyp_term.specs.declared.term.Term.{Term}
 use Rattle.chyp_term.specs.Derivation.{empty}
