@@ -1,12 +1,11 @@
 -- Where the tokens stop to be what is expected, and how they could have gone on.
 use Rattle.std.proofs.Common.{◌≡◌, ℕ, zero, suc, ◌+◌, Bool, true, false, if◌then◌else◌, List, [], ◌∷◌, ◌++◌, Option, None, Some, refl, sym, ◌∙◌, ap, subst}
 use Rattle.std.specs.List.{enumerate_from}
-use Rattle.chyp_lex.specs.declared.token.Token.{Token}
 use Rattle.chyp_lex.specs.declared.token.TokenKind.{TokenKind}
 use Rattle.chyp_lex.specs.declared.token.TokenKind.TheVariants.{Ident, Dotted, Equals, Semicolon, Star, LeftParenthesis, LeftBracket, Comma, Minus, QuestionMark, WordGen, WordLet, WordRule, WordRewrite, WordImport, WordShow, WordId, WordId0, WordSw, WordBy, WordAs, WordSimp}
 use Rattle.chyp_syntax.specs.Expected.{Tail, signed_left, reason_left, numbers_left, places_left, atoms_left, pars_left, prefix_left, opener, behind, same_kind, name_answer, signed_answer, reason_answer, atom_answer, Symbol, token, name, signed, reason, atom, tail, Expected, nothing, statement, steps, goal, next, Answer, takes, skips, refuses, answer, proceed, onto, start, goal_more, step, ends, accepted, stopped, go_on, verdict}
 use Rattle.chyp_syntax.specs.Sentence.{most_nested}
-use Rattle.chyp_syntax.specs.Numbered.{NumberedToken, kind_of, BeginsWithKind}
+use Rattle.chyp_syntax.specs.Numbered.{Terminal, NumberedToken, kind_of, BeginsWithKind}
 use Rattle.chyp_syntax.proofs.Verdicts.{verdict-step, verdict-none, verdict-done, symbol-takes, token-takes, tail_skips}
 
 -- the kinds that a tail begins with
@@ -189,11 +188,11 @@ NoOpener xs = (t : Tail) → BeginsWithKind (opener t) xs → ⊥
 
 -- tokens that are all that is expected, numbered from n
 pub record Completes (e : Expected) (n : ℕ) : Type 0 where
-  pub tokens : List Token
+  pub tokens : List Terminal
   pub accepts : verdict e (enumerate_from n tokens) ≡ accepted
   pub plain : NoOpener (enumerate_from n tokens)
 
-plain-token : (k : TokenKind) (n : ℕ) (rest : List NumberedToken) → ((t : Tail) → opener t ≡ k → ⊥) → NoOpener ((n, record { kind = k; start = 0; len = 0; value = 0 }) ∷ rest)
+plain-token : (k : TokenKind) (n : ℕ) (rest : List NumberedToken) → ((t : Tail) → opener t ≡ k → ⊥) → NoOpener ((n, record { kind = k; value = 0 }) ∷ rest)
 plain-token k n rest f t begins = f t (sym begins)
 
 opens-opener : (t : Tail) → opens (opener t) ≡ true
@@ -208,8 +207,8 @@ opens-opener prefix_left = refl
 no-opener : (k : TokenKind) → opens k ≡ false → (t : Tail) → opener t ≡ k → ⊥
 no-opener k is t e = let clash : true ≡ false = sym (opens-opener t) ∙ ap opens e ∙ is in cc
 
-abbrev a_token : TokenKind → Token
-a_token k = record { kind = k; start = 0; len = 0; value = 0 }
+abbrev a_token : TokenKind → Terminal
+a_token k = record { kind = k; value = 0 }
 
 -- an Ident stands for any symbol that has to be there and is no token of its own
 ident-first : (s : Symbol) (e : Expected) (n : ℕ) → answer s Ident ≡ takes [] → Completes e (n + 1) → Completes (next s e) n

@@ -17,3 +17,4 @@ pub mod Tiling
 pub mod Trees
 pub mod Unique
 pub mod Verdicts
+pub mod Words

@@ -1,6 +1,5 @@
 -- A chunk has at most one tree.
 use Rattle.std.proofs.Common.{◌≡◌, ℕ, true, false, List, [], ◌∷◌, ◌++◌, Option, None, Some, inl, inr, ◌⊎◌, refl, sym, ◌∙◌, ap, ap₂, subst, append-nil, append_assoc}
-use Rattle.chyp_lex.specs.declared.token.Token.{Token}
 use Rattle.chyp_lex.specs.declared.token.TokenKind.{TokenKind}
 use Rattle.chyp_lex.specs.declared.token.TokenKind.TheVariants.{Ident, Dotted, Equals, RightParenthesis, Comma, Minus, QuestionMark, WordGen, WordLet, WordRule, WordRewrite, WordImport, WordShow, WordBy, WordSimp}
 use Rattle.chyp_syntax.specs.declared.step.ReasonAst.{ReasonAst}
@@ -11,6 +10,7 @@ use Rattle.chyp_syntax.specs.Numbered.{NumberedToken, kind_of, value_of, BeginsW
 use Rattle.chyp_syntax.specs.Sentence.{most_nested, IsTerm, IsSigned, forwards, backwards, AreSigned, one_signed, more_signed, IsReason, none, by_rule, by_simp, to_term, to_hole, AreSteps, no_step, last_hole, more_steps, IsStatement, is_gen, is_let, is_rule, is_rewrite, is_import, is_import_as, is_show}
 use Rattle.chyp_syntax.specs.Statement.{StatementTree, generator, definition, rule, rewrite, inclusion, showing}
 use Rattle.chyp_syntax.specs.Step.{StepTree}
+use Rattle.chyp_syntax.specs.Words.{Word}
 use Rattle.chyp_syntax.specs.Term.{TermTree}
 use Rattle.chyp_syntax.proofs.Driving.{Not, other, signed-no-simp, term-no-mark, steps-begin, reason-begins, ends-kind}
 use Rattle.chyp_syntax.proofs.Unique.{heads, Anything, AreParts, one_part, more_parts, parts-one-way, term-one-way}
@@ -222,7 +222,7 @@ some-word (is_import {word = w} {name = a} k0 k1) = (w, a ∷ [], refl)
 some-word (is_import_as {word = w} {name = a} {as' = b} {prefix = c} k0 k1 k2 k3) = (w, a ∷ b ∷ c ∷ [], refl)
 some-word (is_show {word = w} {name = a} k0 k1) = (w, a ∷ [], refl)
 
-pub has_one_tree : (tokens : List Token) → HasOneTree tokens
-has_one_tree tokens tree other' is is' =
+pub has_one_tree : (words : List Word) → HasOneTree words
+has_one_tree words tree other' is is' =
     let w = some-word is.statement in
     same-reading (kind_of w.0) w.1 tree other' (reading is.statement w.0 w.1 w.2) (reading is'.statement w.0 w.1 w.2)

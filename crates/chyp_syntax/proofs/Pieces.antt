@@ -7,10 +7,10 @@ use Rattle.chyp_syntax.specs.declared.step.ReasonAst.{ReasonAst}
 use Rattle.chyp_syntax.specs.declared.step.ReasonAst.TheVariants.{Plain, Rule, Simp}
 use Rattle.chyp_syntax.specs.declared.step.SignedAst.{SignedAst}
 use Rattle.chyp_syntax.specs.Expected.{reason_left, signed_left, Symbol, token, name, signed, reason, atom, tail, Expected, nothing, steps, goal, next, takes, answer, proceed, step, symbol_ends, ends, goal_more, term_then, stopped, go_on, verdict}
-use Rattle.chyp_syntax.specs.Numbered.{NumberedToken, kind_of, tokens_from, BeginsWithKind, BeginsWithName, IsName}
+use Rattle.chyp_syntax.specs.Numbered.{Terminal, NumberedToken, kind_of, tokens_from, BeginsWithKind, BeginsWithName, IsName}
 use Rattle.chyp_syntax.specs.Reads.{BeginsWith, Passes, StopsAt}
 use Rattle.chyp_syntax.specs.Sentence.{IsSigned, forwards, backwards, AreSigned, IsReason, none, by_rule, by_simp, most_nested, IsHole, to_hole}
-use Rattle.chyp_syntax.proofs.Numbered.{token_there, tokens_from-at, from-two, from-three}
+use Rattle.chyp_syntax.proofs.Numbered.{terminal, token_there, tokens_from-at, from-two, from-three}
 use Rattle.chyp_syntax.proofs.Verdicts.{same-other, verdict-none, verdict-end, symbol-takes, name-takes, tail_passes, token_passes}
 
 -- one token is the whole thing
@@ -18,18 +18,18 @@ pub single : {A : Type 0} (Is : List NumberedToken → A → Type 0) (xs ys : Li
 single Is xs ys x t e is = record { front = x ∷ []; joined = e; is = is }
 
 pub name_there : (tokens : List Token) (at : ℕ) → BeginsWithName (tokens_from tokens at) →
-    (token : Token) × (at < length tokens) × (tokens_from tokens at ≡ (at, token) ∷ tokens_from tokens (at + 1)) × IsName (at, token)
+    (token : Terminal) × (at < length tokens) × (tokens_from tokens at ≡ (at, token) ∷ tokens_from tokens (at + 1)) × IsName (at, token)
 name_there tokens at begins = go (tokens_from tokens at) refl begins
   where
-    from_kind : (kind : TokenKind) → (kind ≡ Ident) → BeginsWithKind kind (tokens_from tokens at) → (token : Token) × (at < length tokens)
+    from_kind : (kind : TokenKind) → (kind ≡ Ident) → BeginsWithKind kind (tokens_from tokens at) → (token : Terminal) × (at < length tokens)
         × (tokens_from tokens at ≡ (at, token) ∷ tokens_from tokens (at + 1)) × IsName (at, token)
     from_kind kind e is = let h = token_there tokens at kind is in (h.0, h.1, h.2, inl (h.3 ∙ e))
 
-    from_kind' : (kind : TokenKind) → (kind ≡ Dotted) → BeginsWithKind kind (tokens_from tokens at) → (token : Token) × (at < length tokens)
+    from_kind' : (kind : TokenKind) → (kind ≡ Dotted) → BeginsWithKind kind (tokens_from tokens at) → (token : Terminal) × (at < length tokens)
         × (tokens_from tokens at ≡ (at, token) ∷ tokens_from tokens (at + 1)) × IsName (at, token)
     from_kind' kind e is = let h = token_there tokens at kind is in (h.0, h.1, h.2, inr (h.3 ∙ e))
 
-    go : (xs : List NumberedToken) → tokens_from tokens at ≡ xs → BeginsWithName xs → (token : Token) × (at < length tokens) × (tokens_from tokens at ≡ (at, token) ∷ tokens_from tokens (at + 1))
+    go : (xs : List NumberedToken) → tokens_from tokens at ≡ xs → BeginsWithName xs → (token : Terminal) × (at < length tokens) × (tokens_from tokens at ≡ (at, token) ∷ tokens_from tokens (at + 1))
         × IsName (at, token)
     go [] e is = elim is [ ]
     go (x ∷ xs) e (inl is) = from_kind Ident refl (subst (BeginsWithKind Ident) (sym e) is)
@@ -183,7 +183,7 @@ pub more_than_nothing : (tokens : List Token) (at k : ℕ) → k ≡ at → at <
 more_than_nothing tokens at k same lt =
     let d : Token = record { kind = Ident; start = 0; len = 0; value = 0 } in
     let here = tokens_from-at tokens at d lt in
-    let x : NumberedToken = (at, get_or tokens at d) in
+    let x : NumberedToken = (at, terminal (get_or tokens at d)) in
     let stop : verdict nothing (tokens_from tokens at) ≡ stopped (tokens_from tokens at) =
     ap (verdict nothing) here ∙ verdict-nothing x (tokens_from tokens (at + 1)) ∙ ap stopped (sym here) in
     subst (λ n. StopsAt nothing tokens at n) (sym same) (let le : at ≤ length tokens = omega arith in le, stop)

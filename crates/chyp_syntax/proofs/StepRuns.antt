@@ -9,7 +9,7 @@ use Rattle.chyp_syntax.specs.Reads.{BeginsWith, StopsAt}
 use Rattle.chyp_syntax.specs.Sentence.{most_nested, IsTerm, IsReason, IsStep, to_term, IsHole, AreSteps, no_step, last_hole, more_steps}
 use Rattle.chyp_syntax.specs.Step.{StepTree}
 use Rattle.chyp_syntax.specs.Term.{TermTree}
-use Rattle.chyp_syntax.proofs.Numbered.{token_there, tokens_from-at, from-two}
+use Rattle.chyp_syntax.proofs.Numbered.{terminal, token_there, tokens_from-at, from-two}
 use Rattle.chyp_syntax.proofs.Pieces.{goal_term}
 use Rattle.chyp_syntax.proofs.Separated.{SoFar}
 use Rattle.chyp_syntax.proofs.Verdicts.{same-self, same-other, verdict-step, verdict-none}
@@ -75,7 +75,7 @@ pub no_step_there : (tokens : List Token) (at k : ℕ) → (BeginsWithKind Equal
 no_step_there tokens at k other same lt =
     let d : Token = record { kind = Ident; start = 0; len = 0; value = 0 } in
     let here = tokens_from-at tokens at d lt in
-    let x : NumberedToken = (at, get_or tokens at d) in
+    let x : NumberedToken = (at, terminal (get_or tokens at d)) in
     let le : at ≤ length tokens = omega arith in
     let differs : kind_of x ≡ Equals → ⊥ = λ is. other (subst (BeginsWithKind Equals) (sym here) is) in
     let stop : verdict steps (tokens_from tokens at) ≡ stopped (tokens_from tokens at) =

@@ -7,6 +7,7 @@ use Rattle.chyp_lex.specs.declared.token.TokenKind.TheVariants.{Ident, WordGen, 
 use Rattle.chyp_lex.specs.Names.{is_name}
 use Rattle.chyp_lex.specs.Tokens.{token_text}
 use Rattle.chyp_syntax.specs.declared.chunk.Chunk.{Chunk}
+use Rattle.chyp_syntax.specs.Words.{Word}
 
 -- the tokens of a chunk
 abbrev pub chunk_tokens : List Token → Chunk → List Token
@@ -36,10 +37,10 @@ is_identifier Ident = true
 is_identifier _ = false
 
 -- the name that a statement declares, whatever becomes of it: the identifier behind `gen`, `let`, `rule` or `rewrite`
-abbrev pub declared_name : List ℕ → List Token → Option (List ℕ)
-declared_name text [] = None
-declared_name text (keyword ∷ []) = None
-declared_name text (keyword ∷ name ∷ rest) = if declares keyword.kind && is_identifier name.kind then Some (token_text text name) else None
+abbrev pub declared_name : List Word → Option (List ℕ)
+declared_name [] = None
+declared_name (keyword ∷ []) = None
+declared_name (keyword ∷ name ∷ rest) = if declares keyword.kind && is_identifier name.kind then Some name.bytes else None
 
 -- where a token ends: at the byte behind it
 abbrev pub end_of : Token → ℕ
@@ -49,10 +50,6 @@ end_of token = token.start + token.len
 abbrev pub token_start : List Token → ℕ → ℕ
 token_start statement number =
     option_map_or (λ token. token.start) (slice_get statement number) (option_map_or end_of (slice_get statement (length statement - 1)) 0)
-
--- the bytes of the token of this number, none where the statement has no such token
-abbrev pub text_at : List ℕ → List Token → ℕ → List ℕ
-text_at text statement number = option_map_or (token_text text) (slice_get statement number) []
 
 -- the keyword of a statement, or `stray`
 abbrev pub kind_text : List Token → List ℕ

@@ -8,3 +8,4 @@ pub mod Sentence
 pub mod Statement
 pub mod Step
 pub mod Term
+pub mod Words

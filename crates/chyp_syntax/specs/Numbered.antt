@@ -1,23 +1,37 @@
--- The tokens of a chunk, numbered from 0.
-use Rattle.std.specs.Prelude.{◌≡◌, ℕ, ◌⊎◌, List, [], ◌∷◌, drop}
+-- What the grammar sees of words, numbered from 0.
+use Rattle.std.specs.Prelude.{◌≡◌, ℕ, ◌⊎◌, List, [], ◌∷◌, drop, map}
 use Rattle.std.specs.List.{enumerate_from}
 use Rattle.chyp_lex.specs.declared.token.Token.{Token}
 use Rattle.chyp_lex.specs.declared.token.TokenKind.{TokenKind}
 use Rattle.chyp_lex.specs.declared.token.TokenKind.TheVariants.{Ident, Dotted, Number}
+use Rattle.chyp_syntax.specs.Words.{Word, words_of}
 
--- a token with its number
+-- a terminal symbol of the grammar: the kind of a word, and its value
+pub record Terminal : Type 0 where
+  pub kind : TokenKind
+  pub value : ℕ
+
+-- the terminal symbol that a word is, whatever its bytes
+abbrev pub terminal_of : Word → Terminal
+terminal_of word = record { kind = word.kind; value = word.value }
+
+-- a terminal symbol with its number
 abbrev pub NumberedToken : Type 0
-NumberedToken = ℕ × Token
+NumberedToken = ℕ × Terminal
 
--- the tokens with their numbers
-abbrev pub numbered : List Token → List NumberedToken
-numbered tokens = enumerate_from 0 tokens
+-- the terminal symbols of words with their numbers
+abbrev pub numbered : List Word → List NumberedToken
+numbered words = enumerate_from 0 (map terminal_of words)
 
 -- those from the place on
-abbrev pub tokens_from : List Token → ℕ → List NumberedToken
-tokens_from tokens at = drop at (numbered tokens)
+abbrev pub words_from : List Word → ℕ → List NumberedToken
+words_from words at = drop at (numbered words)
 
--- the kind of a numbered token
+-- those of tokens, for which no text is needed
+abbrev pub tokens_from : List Token → ℕ → List NumberedToken
+tokens_from tokens at = words_from (words_of [] tokens) at
+
+-- the kind of a terminal symbol
 abbrev pub kind_of : NumberedToken → TokenKind
 kind_of at = at.1.kind
 

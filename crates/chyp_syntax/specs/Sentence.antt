@@ -1,6 +1,5 @@
 -- The grammar of statements, a case for each of its lines, with the tree of each sentence: this project's own.
 use Rattle.std.specs.Prelude.{◌≡◌, ℕ, suc, true, false, List, [], ◌∷◌, ◌++◌, None, Some}
-use Rattle.chyp_lex.specs.declared.token.Token.{Token}
 use Rattle.chyp_lex.specs.declared.token.TokenKind.TheVariants.{Ident, Number, Colon, Arrow, Equals, Semicolon, Star, LeftParenthesis, RightParenthesis, LeftBracket, RightBracket, Comma, Minus, QuestionMark, WordGen, WordLet, WordRule, WordRewrite, WordImport, WordShow, WordId, WordId0, WordSw, WordBy, WordAs, WordSimp}
 use Rattle.chyp_syntax.specs.declared.step.ReasonAst.{ReasonAst}
 use Rattle.chyp_syntax.specs.declared.step.ReasonAst.TheVariants.{Plain, Rule, Simp}
@@ -10,6 +9,7 @@ use Rattle.chyp_syntax.specs.Numbered.{NumberedToken, numbered, kind_of, value_o
 use Rattle.chyp_syntax.specs.Statement.{StatementTree, generator, definition, rule, rewrite, inclusion, showing}
 use Rattle.chyp_syntax.specs.Step.{StepTree}
 use Rattle.chyp_syntax.specs.Term.{TermTree, named, wire, empty, swap, chain_of, tensor_of}
+use Rattle.chyp_syntax.specs.Words.{Word}
 
 -- Number { "," Number }, with the values
 pub data AreNumbers : List NumberedToken → List ℕ → Type 0 where
@@ -134,14 +134,14 @@ pub data IsStatement : List NumberedToken → StatementTree → Type 0 where
   -- "show" name
   is_show : {word name : NumberedToken} → kind_of word ≡ WordShow → IsName name → IsStatement (word ∷ name ∷ []) (showing name.0)
 
--- the tokens of a chunk are a sentence, and this is its tree
-pub record IsSentence (tokens : List Token) (tree : StatementTree) : Type 0 where
-  pub statement : IsStatement (numbered tokens) tree
+-- the words are a sentence, and this is its tree
+pub record IsSentence (words : List Word) (tree : StatementTree) : Type 0 where
+  pub statement : IsStatement (numbered words) tree
 
--- no tree fits the tokens
-abbrev pub IsNoSentence : List Token → Type 0
-IsNoSentence tokens = (tree : StatementTree) → IsSentence tokens tree → ⊥
+-- no tree fits the words
+abbrev pub IsNoSentence : List Word → Type 0
+IsNoSentence words = (tree : StatementTree) → IsSentence words tree → ⊥
 
--- the tokens begin a sentence, or are one
-abbrev pub IsPrefix : List Token → Type 0
-IsPrefix tokens = (rest : List Token) × (tree : StatementTree) × IsSentence (tokens ++ rest) tree
+-- the words begin a sentence, or are one
+abbrev pub IsPrefix : List Word → Type 0
+IsPrefix words = (rest : List Word) × (tree : StatementTree) × IsSentence (words ++ rest) tree

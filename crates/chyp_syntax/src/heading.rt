@@ -2,7 +2,8 @@
 ghost use Rattle.std.specs.Prelude.{◌≡◌, ◌≤◌, ◌+◌, ◌<◌, ◌&&◌, ℕ, length, option_copied, Some, is_some, slice_get, take, drop, codes};
 ghost use Rattle.chyp_lex.specs.Names.{is_name};
 ghost use Rattle.chyp_lex.specs.Tokens.{AreSpans, token_text};
-ghost use Rattle.chyp_syntax.specs.Heading.{chunk_tokens, keyword_of, declares, is_identifier, declared_name, kind_text, shown_name, text_at, end_of, token_start};
+ghost use Rattle.chyp_syntax.specs.Heading.{chunk_tokens, keyword_of, declares, is_identifier, declared_name, kind_text, shown_name, end_of, token_start};
+ghost use Rattle.chyp_syntax.specs.Words.{bytes_at, words_of};
 
 use crate::Chunk;
 use chyp_lex::{Token, TokenKind};
@@ -66,7 +67,7 @@ fn token_text<'a>(text: &'a [u8], token: &Token) -> &'a [u8]
 /// The bytes of the token of this number, none where the statement has no such token.
 pub fn text_at<'a>(text: &'a [u8], statement: &[Token], number: u32) -> &'a [u8]
     requires { AreSpans (length text.now) statement.now }
-    ensures { result.now ≡ text_at text.entry.now statement.now number }
+    ensures { result.now ≡ bytes_at (words_of text.entry.now statement.now) number }
 {
     match statement.get(number as usize) {
         Some(token) => token_text(text, token),
@@ -77,7 +78,7 @@ pub fn text_at<'a>(text: &'a [u8], statement: &[Token], number: u32) -> &'a [u8]
 /// The name that a statement declares, whatever becomes of it.
 pub fn declared_name<'a>(text: &'a [u8], statement: &[Token]) -> Option<&'a [u8]>
     requires { AreSpans (length text.now) statement.now }
-    ensures { option_copied result ≡ declared_name text.entry.now statement.now }
+    ensures { option_copied result ≡ declared_name (words_of text.entry.now statement.now) }
 {
     let keyword = statement.first()?;
     let name = statement.get(1)?;

@@ -3,10 +3,11 @@ ghost use Rattle.std.specs.Prelude.{◌≡◌, ℕ, ◌^◌, ◌<◌, length, Li
 ghost use Rattle.chyp_lex.specs.declared.token.Token.{Token};
 ghost use Rattle.chyp_syntax.specs.Expected.{statement};
 ghost use Rattle.chyp_syntax.specs.Failing.{FailsAt};
-ghost use Rattle.chyp_syntax.specs.Numbered.{numbered, tokens_from, BeginsWithKind};
+ghost use Rattle.chyp_syntax.specs.Numbered.{tokens_from, BeginsWithKind};
 ghost use Rattle.chyp_syntax.specs.Reads.{StopsAt};
 ghost use Rattle.chyp_syntax.specs.Sentence.{IsStatement, IsSentence};
 ghost use Rattle.chyp_syntax.specs.Statement.{statement_of};
+ghost use Rattle.chyp_syntax.specs.Words.{words_of};
 
 use crate::steps::steps;
 use crate::terms::{MOST_NESTED, term};
@@ -24,8 +25,9 @@ use std::alloc::Global;
 /// the tree can't be kept.
 pub fn parse(alloc: Global, tokens: &[Token]) -> Result<Ast, ParseError>
     requires { length tokens.now < 2 ^ 32 }
-    ensures tree { IfOk result (λ ast. IsSentence tokens.now (statement_of ast)) }
-    ensures syntax { (k : ℕ) → result ≡ Err (ParseError.Syntax k) → FailsAt tokens.now k }
+    ensures tree { IfOk result (λ ast. (text : List ℕ) → IsSentence (words_of text tokens.now) (statement_of ast)) }
+    ensures syntax { (k : ℕ) → result ≡ Err (ParseError.Syntax k) → (text : List ℕ)
+        → FailsAt (words_of text tokens.now) k }
 {
     statement(alloc, tokens)
 }
@@ -33,7 +35,7 @@ pub fn parse(alloc: Global, tokens: &[Token]) -> Result<Ast, ParseError>
 // The tree of a chunk, by its first word.
 fn statement(alloc: Global, tokens: &[Token]) -> Result<Ast, ParseError>
     requires { length tokens.now < 2 ^ 32 }
-    ensures tree { IfOk result (λ ast. IsStatement (numbered tokens.now) (statement_of ast)) }
+    ensures tree { IfOk result (λ ast. IsStatement (tokens_from tokens.now 0) (statement_of ast)) }
     ensures stops { (k : ℕ) → result ≡ Err (ParseError.Syntax k) → StopsAt statement tokens.now 0 k }
 {
     let Some(word) = tokens.first() else {
@@ -54,7 +56,7 @@ fn gen_decl(tokens: &[Token]) -> Result<Ast, ParseError>
     requires few { length tokens.now < 2 ^ 32 }
     requires begins { BeginsWithKind TokenKind.WordGen (tokens_from tokens.now 0) }
     requires some { 0 < length tokens.now }
-    ensures tree { IfOk result (λ ast. IsStatement (numbered tokens.now) (statement_of ast)) }
+    ensures tree { IfOk result (λ ast. IsStatement (tokens_from tokens.now 0) (statement_of ast)) }
     ensures stops { (k : ℕ) → result ≡ Err (ParseError.Syntax k) → StopsAt statement tokens.now 0 k }
 {
     expect(tokens, 1, TokenKind::Ident)?;
@@ -71,7 +73,7 @@ fn let_decl(alloc: Global, tokens: &[Token]) -> Result<Ast, ParseError>
     requires few { length tokens.now < 2 ^ 32 }
     requires begins { BeginsWithKind TokenKind.WordLet (tokens_from tokens.now 0) }
     requires some { 0 < length tokens.now }
-    ensures tree { IfOk result (λ ast. IsStatement (numbered tokens.now) (statement_of ast)) }
+    ensures tree { IfOk result (λ ast. IsStatement (tokens_from tokens.now 0) (statement_of ast)) }
     ensures stops { (k : ℕ) → result ≡ Err (ParseError.Syntax k) → StopsAt statement tokens.now 0 k }
 {
     expect(tokens, 1, TokenKind::Ident)?;
@@ -86,7 +88,7 @@ fn rule_decl(alloc: Global, tokens: &[Token]) -> Result<Ast, ParseError>
     requires few { length tokens.now < 2 ^ 32 }
     requires begins { BeginsWithKind TokenKind.WordRule (tokens_from tokens.now 0) }
     requires some { 0 < length tokens.now }
-    ensures tree { IfOk result (λ ast. IsStatement (numbered tokens.now) (statement_of ast)) }
+    ensures tree { IfOk result (λ ast. IsStatement (tokens_from tokens.now 0) (statement_of ast)) }
     ensures stops { (k : ℕ) → result ≡ Err (ParseError.Syntax k) → StopsAt statement tokens.now 0 k }
 {
     expect(tokens, 1, TokenKind::Ident)?;
@@ -109,7 +111,7 @@ fn rewrite_decl(alloc: Global, tokens: &[Token]) -> Result<Ast, ParseError>
     requires few { length tokens.now < 2 ^ 32 }
     requires begins { BeginsWithKind TokenKind.WordRewrite (tokens_from tokens.now 0) }
     requires some { 0 < length tokens.now }
-    ensures tree { IfOk result (λ ast. IsStatement (numbered tokens.now) (statement_of ast)) }
+    ensures tree { IfOk result (λ ast. IsStatement (tokens_from tokens.now 0) (statement_of ast)) }
     ensures stops { (k : ℕ) → result ≡ Err (ParseError.Syntax k) → StopsAt statement tokens.now 0 k }
 {
     expect(tokens, 1, TokenKind::Ident)?;
@@ -124,7 +126,7 @@ fn import_decl(tokens: &[Token]) -> Result<Ast, ParseError>
     requires few { length tokens.now < 2 ^ 32 }
     requires begins { BeginsWithKind TokenKind.WordImport (tokens_from tokens.now 0) }
     requires some { 0 < length tokens.now }
-    ensures tree { IfOk result (λ ast. IsStatement (numbered tokens.now) (statement_of ast)) }
+    ensures tree { IfOk result (λ ast. IsStatement (tokens_from tokens.now 0) (statement_of ast)) }
     ensures stops { (k : ℕ) → result ≡ Err (ParseError.Syntax k) → StopsAt statement tokens.now 0 k }
 {
     expect(tokens, 1, TokenKind::Ident)?;
@@ -144,7 +146,7 @@ fn show_decl(tokens: &[Token]) -> Result<Ast, ParseError>
     requires few { length tokens.now < 2 ^ 32 }
     requires begins { BeginsWithKind TokenKind.WordShow (tokens_from tokens.now 0) }
     requires some { 0 < length tokens.now }
-    ensures tree { IfOk result (λ ast. IsStatement (numbered tokens.now) (statement_of ast)) }
+    ensures tree { IfOk result (λ ast. IsStatement (tokens_from tokens.now 0) (statement_of ast)) }
     ensures stops { (k : ℕ) → result ≡ Err (ParseError.Syntax k) → StopsAt statement tokens.now 0 k }
 {
     expect_name(tokens, 1)?;

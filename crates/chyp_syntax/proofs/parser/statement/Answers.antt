@@ -2,7 +2,7 @@ use Rattle.std.proofs.Common.{◌≡◌, subst, arith}
 use Rattle.chyp_syntax.specs.Expected.{statement}
 use Rattle.chyp_syntax.specs.Numbered.{tokens_from}
 use Rattle.chyp_syntax.specs.Reads.{StopsAt}
-use Rattle.chyp_syntax.proofs.Numbered.{tokens_from-more, tokens_from-past}
+use Rattle.chyp_syntax.proofs.Numbered.{terminal, tokens_from-more, tokens_from-past}
 use Rattle.chyp_syntax.proofs.Statements.{no_statement_there, nothing_there}
 use Rattle.chyp_syntax.proofs.parser.statement.Goals as goal
 
@@ -22,7 +22,7 @@ returns-in_default-kind c =
       stops = λ k is. let same : 0 ≡ k = cc in
           subst (λ n. StopsAt statement tokens 0 n) same (
             omega arith,
-            no_statement_there (tokens_from tokens 0) (tokens_from tokens 1) (0, word) here
+            no_statement_there (tokens_from tokens 0) (tokens_from tokens 1) (0, terminal word) here
                 c.in_default-kind.not-WordGen c.in_default-kind.not-WordLet c.in_default-kind.not-WordRule c.in_default-kind.not-WordRewrite c.in_default-kind.not-WordImport
                 c.in_default-kind.not-WordShow,
           );

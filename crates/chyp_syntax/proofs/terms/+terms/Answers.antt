@@ -10,7 +10,7 @@ use Rattle.chyp_syntax.specs.Reads.{BeginsWith, Passes}
 use Rattle.chyp_syntax.specs.Sentence.{IsSwap, IsAtom, AreAtoms, IsPar, ArePars}
 use Rattle.chyp_syntax.specs.Term.{TermTree, tree_of}
 use Rattle.chyp_syntax.proofs.Atoms.{atom_stops, atom_past, named_there, wire_there, empty_there, name_takes, swap_atom, swap_expects, deepest_stops, inner_expects, is_inner, atoms_one, atoms_more, pars_one, pars_more, is_tensor, is_chain}
-use Rattle.chyp_syntax.proofs.Numbered.{tokens_from-more, tokens_from-past, begins_there, within_kind}
+use Rattle.chyp_syntax.proofs.Numbered.{terminal, tokens_from-more, tokens_from-past, begins_there, within_kind}
 use Rattle.chyp_syntax.proofs.Pieces.{atom_one}
 use Rattle.chyp_syntax.proofs.Separated.{so_far_more, so_far_last, again_more, again_last}
 use Rattle.chyp_syntax.proofs.Trees.{tree_of-Named, tree_of-Wire, tree_of-Empty}
@@ -32,7 +32,7 @@ atom-swap-requires-clause-begins t c =
     let tokens = c.args.tokens.now in
     let at = c.args.at in
     let here = tokens_from-more tokens at token c.in-Some.ensures.lookup.3.0 c.in-Some.ensures.lookup.1 in
-    begins_there WordSw (tokens_from tokens at) (tokens_from tokens (at + 1)) (at, token) here c.in-WordSw.is
+    begins_there WordSw (tokens_from tokens at) (tokens_from tokens (at + 1)) (at, terminal token) here c.in-WordSw.is
 
 pub atom-inner-requires : goal.atom-inner-requires
 atom-inner-requires t c =
@@ -40,7 +40,7 @@ atom-inner-requires t c =
     let tokens = c.args.tokens.now in
     let at = c.args.at in
     let here = tokens_from-more tokens at token c.in-Some.ensures.lookup.3.0 c.in-Some.ensures.lookup.1 in
-    let begins = begins_there LeftParenthesis (tokens_from tokens at) (tokens_from tokens (at + 1)) (at, token) here c.in-LeftParenthesis.is in
+    let begins = begins_there LeftParenthesis (tokens_from tokens at) (tokens_from tokens (at + 1)) (at, terminal token) here c.in-LeftParenthesis.is in
     (search rules, (c.requires.few, (begins, c.in-Some.ensures.lookup.3.0)))
 
 pub atom-returns-in-Ident-clause-read : goal.atom-returns-in-Ident-clause-read
@@ -49,7 +49,7 @@ atom-returns-in-Ident-clause-read t c =
     let tokens = c.args.tokens.now in
     let at = c.args.at in
     let here = tokens_from-more tokens at token c.in-Some.ensures.lookup.3.0 c.in-Some.ensures.lookup.1 in
-    rw (tree_of-Named at) (named_there tokens at c.args.depth (at, token) refl here c.in-Ident.is)
+    rw (tree_of-Named at) (named_there tokens at c.args.depth (at, terminal token) refl here c.in-Ident.is)
 
 pub atom-returns-in-Ident-clause-passes : goal.atom-returns-in-Ident-clause-passes
 atom-returns-in-Ident-clause-passes t c =
@@ -57,7 +57,7 @@ atom-returns-in-Ident-clause-passes t c =
     let tokens = c.args.tokens.now in
     let at = c.args.at in
     let here = tokens_from-more tokens at token c.in-Some.ensures.lookup.3.0 c.in-Some.ensures.lookup.1 in
-    atom_one tokens at c.args.depth (at, token) here (name_takes c.args.depth (at, token) c.in-Ident.is)
+    atom_one tokens at c.args.depth (at, terminal token) here (name_takes c.args.depth (at, terminal token) c.in-Ident.is)
 
 pub atom-returns-in-WordId-clause-read : goal.atom-returns-in-WordId-clause-read
 atom-returns-in-WordId-clause-read t c =
@@ -65,7 +65,7 @@ atom-returns-in-WordId-clause-read t c =
     let tokens = c.args.tokens.now in
     let at = c.args.at in
     let here = tokens_from-more tokens at token c.in-Some.ensures.lookup.3.0 c.in-Some.ensures.lookup.1 in
-    rw tree_of-Wire (wire_there (tokens_from tokens at) (tokens_from tokens (at + 1)) c.args.depth (at, token) here c.in-WordId.is)
+    rw tree_of-Wire (wire_there (tokens_from tokens at) (tokens_from tokens (at + 1)) c.args.depth (at, terminal token) here c.in-WordId.is)
 
 pub atom-returns-in-WordId-clause-passes : goal.atom-returns-in-WordId-clause-passes
 atom-returns-in-WordId-clause-passes t c =
@@ -73,7 +73,7 @@ atom-returns-in-WordId-clause-passes t c =
     let tokens = c.args.tokens.now in
     let at = c.args.at in
     let here = tokens_from-more tokens at token c.in-Some.ensures.lookup.3.0 c.in-Some.ensures.lookup.1 in
-    atom_one tokens at c.args.depth (at, token) here (ap (answer (atom c.args.depth)) c.in-WordId.is)
+    atom_one tokens at c.args.depth (at, terminal token) here (ap (answer (atom c.args.depth)) c.in-WordId.is)
 
 pub atom-returns-in-WordId0-clause-read : goal.atom-returns-in-WordId0-clause-read
 atom-returns-in-WordId0-clause-read t c =
@@ -81,7 +81,7 @@ atom-returns-in-WordId0-clause-read t c =
     let tokens = c.args.tokens.now in
     let at = c.args.at in
     let here = tokens_from-more tokens at token c.in-Some.ensures.lookup.3.0 c.in-Some.ensures.lookup.1 in
-    rw tree_of-Empty (empty_there (tokens_from tokens at) (tokens_from tokens (at + 1)) c.args.depth (at, token) here c.in-WordId0.is)
+    rw tree_of-Empty (empty_there (tokens_from tokens at) (tokens_from tokens (at + 1)) c.args.depth (at, terminal token) here c.in-WordId0.is)
 
 pub atom-returns-in-WordId0-clause-passes : goal.atom-returns-in-WordId0-clause-passes
 atom-returns-in-WordId0-clause-passes t c =
@@ -89,7 +89,7 @@ atom-returns-in-WordId0-clause-passes t c =
     let tokens = c.args.tokens.now in
     let at = c.args.at in
     let here = tokens_from-more tokens at token c.in-Some.ensures.lookup.3.0 c.in-Some.ensures.lookup.1 in
-    atom_one tokens at c.args.depth (at, token) here (ap (answer (atom c.args.depth)) c.in-WordId0.is)
+    atom_one tokens at c.args.depth (at, terminal token) here (ap (answer (atom c.args.depth)) c.in-WordId0.is)
 
 pub atom-returns-in-WordSw-clause-read : goal.atom-returns-in-WordSw-clause-read
 atom-returns-in-WordSw-clause-read t c =
@@ -103,7 +103,7 @@ atom-returns-in-WordSw-clause-passes t c =
     let tokens = c.args.tokens.now in
     let at = c.args.at in
     let here = tokens_from-more tokens at token c.in-Some.ensures.lookup.3.0 c.in-Some.ensures.lookup.1 in
-    let begins = begins_there WordSw (tokens_from tokens at) (tokens_from tokens (at + 1)) (at, token) here c.in-WordSw.is in
+    let begins = begins_there WordSw (tokens_from tokens at) (tokens_from tokens (at + 1)) (at, terminal token) here c.in-WordSw.is in
     IfOk-weaker c.swap.result (λ found. Passes (next (tail places_left)) tokens (at + 1) found.1) (λ found. Passes (next (atom c.args.depth)) tokens at found.1)
     (λ found passes e. swap_expects tokens at c.args.depth e begins ∙ passes e) c.swap.ensures.passes
 
@@ -113,7 +113,7 @@ atom-returns-in-WordSw-clause-stops t c k is =
     let tokens = c.args.tokens.now in
     let at = c.args.at in
     let here = tokens_from-more tokens at token c.in-Some.ensures.lookup.3.0 c.in-Some.ensures.lookup.1 in
-    let begins = begins_there WordSw (tokens_from tokens at) (tokens_from tokens (at + 1)) (at, token) here c.in-WordSw.is in
+    let begins = begins_there WordSw (tokens_from tokens at) (tokens_from tokens (at + 1)) (at, terminal token) here c.in-WordSw.is in
     let stops = c.swap.ensures.stops k is in
     (stops.0, λ e. swap_expects tokens at c.args.depth e begins ∙ stops.1 e)
 
@@ -129,7 +129,7 @@ atom-returns-in_default-kind t c =
       within = tt;
       stops = λ k is. let same : at ≡ k = cc in
           stops_here tokens at k (next (atom c.args.depth)) c.requires.within same (
-          λ e. atom_stops c.args.depth e (tokens_from tokens at) (tokens_from tokens (at + 1)) (at, token) here
+          λ e. atom_stops c.args.depth e (tokens_from tokens at) (tokens_from tokens (at + 1)) (at, terminal token) here
           c.in_default-kind.not-Ident c.in_default-kind.not-Dotted c.in_default-kind.not-WordId c.in_default-kind.not-WordId0 c.in_default-kind.not-WordSw c.in_default-kind.not-LeftParenthesis
           );
     }
