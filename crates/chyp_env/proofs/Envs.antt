@@ -12,7 +12,7 @@ use Rattle.chyp_env.specs.declared.entry.Entry.{Entry}
 use Rattle.chyp_env.specs.Entry.{entry_of, sense_of}
 use Rattle.chyp_env.specs.Environment.{Binding, binding_of, is_bound}
 use Rattle.chyp_env.specs.Kept.{IsKept}
-use Rattle.chyp_env.specs.Site.{term_of}
+use Rattle.chyp_env.specs.Scope.{Scope, binding_at, meaning_at, term_of}
 use Rattle.chyp_env.specs.Sound.{IsSoundSense, HasDistinctNames, IsSound}
 
 abbrev pub Pairs : Type 0
@@ -65,12 +65,11 @@ looked_up pairs env q (Some entry) kept same e = (some_bound pairs env q entry.n
 looked_up pairs env q None kept same e = (tt, none_bound pairs env q kept same e)
 
 -- the term that a name stands for which is bound, and one that isn't
-pub bound_term : (env : List Binding) (q r : List ℕ) (b : Binding) → q ≡ r → binding_of env q ≡ Some b
-    → term_of b.sense ≡ option_map_or (λ binding. term_of binding.sense) (binding_of env r) empty
-bound_term env q r b same bound = rw (sym same, bound) refl
+pub bound_term : (scope : Scope) (token : ℕ) (b : Binding) → binding_at scope token ≡ Some b → term_of b.sense ≡ meaning_at scope token
+bound_term scope token b bound = rw bound refl
 
-pub unbound_term : (env : List Binding) (q r : List ℕ) → q ≡ r → binding_of env q ≡ None → empty ≡ option_map_or (λ binding. term_of binding.sense) (binding_of env r) empty
-unbound_term env q r same free = rw (sym same, free) refl
+pub unbound_term : (scope : Scope) (token : ℕ) → binding_at scope token ≡ None → empty ≡ meaning_at scope token
+unbound_term scope token free = rw free refl
 
 -- an environment is sound
 pub kept_sound : (pairs : Pairs) (env : List Binding) → AreKept pairs × HasDistinctNames (map binding_in pairs) → map binding_in pairs ≡ env → IsSound env

@@ -3,10 +3,14 @@ use Rattle.std.specs.Prelude.{◌≡◌, ◌⊎◌, ℕ, Bool, true, false, List
 use Rattle.std.specs.Coded.{Coded, code_by, coded×, coded⊎, coded_list, coded_ℕ, coded_bool}
 use Rattle.std.proofs.Common.{inl, inr, refl, ap, sym, ◌∙◌, append_assoc, append-nil}
 use Rattle.chyp_base.specs.contracts.sort.Sort as sort
+use Rattle.chyp_lex.specs.contracts.token.TokenKind as kind
 use Rattle.chyp_base.specs.declared.sort.Sort.{Sort}
 use Rattle.chyp_term.specs.Derivation.{empty}
 use Rattle.chyp_term.specs.Morphism.{Morphism, generator as a_generator, permutation, then, beside}
 use Rattle.chyp_env.specs.Environment.{Sense, generator, abbreviation, law, unproved, broken, Binding}
+use Rattle.chyp_env.specs.Scope.{Scope}
+use Rattle.chyp_lex.specs.declared.token.TokenKind.{TokenKind}
+use Rattle.chyp_syntax.specs.Words.{Word}
 
 -- a generator, a permutation, or a sign that the last two terms are composed (true) or stand side by side
 abbrev pub Node : Type 0
@@ -104,3 +108,15 @@ abbrev pub binding_code : Coded Binding
 binding_code =
     code_by (List ℕ × ((List ℕ × ℕ) × Sense)) (coded× (coded_list coded_ℕ) (coded× (coded× (coded_list coded_ℕ) coded_ℕ) sense_code))
     (λ b. (b.name, (b.origin, b.sense))) (λ p. record { name = p.0; origin = p.1.0; sense = p.1.1 }) (λ _. refl)
+
+-- so are words
+abbrev pub word_code : Coded Word
+word_code =
+    code_by (TokenKind × (List ℕ × ℕ)) (coded× kind.the_row.coded (coded× (coded_list coded_ℕ) coded_ℕ))
+    (λ w. (w.kind, (w.bytes, w.value))) (λ p. record { kind = p.0; bytes = p.1.0; value = p.1.1 }) (λ _. refl)
+
+-- and scopes
+abbrev pub scope_code : Coded Scope
+scope_code =
+    code_by (List Word × List Binding) (coded× (coded_list word_code) (coded_list binding_code))
+    (λ s. (s.words, s.env)) (λ p. record { words = p.0; env = p.1 }) (λ _. refl)

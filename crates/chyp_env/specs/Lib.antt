@@ -3,10 +3,12 @@ pub mod Coded
 pub mod Entry
 pub mod Environment
 pub mod Import
+pub mod ImportState
 pub mod Expansion
 pub mod Kept
 pub mod KnownTerm
 pub mod PlainWires
+pub mod Scope
 pub mod Shape
 pub mod Site
 pub mod Sizes

@@ -2,7 +2,6 @@
 ghost use Rattle.std.specs.Prelude.{◌≡◌, ℕ, [], ◌∷◌, ◌++◌, false, IfSome, IfNone, IfOk, OnOk, OnErr, Some, None};
 ghost use Rattle.chyp_env.specs.Entry.{entry_of, sense_of};
 ghost use Rattle.chyp_env.specs.Environment.{binding_of, is_bound};
-ghost use Rattle.chyp_env.specs.PlainWires.{ArePlain};
 ghost use Rattle.chyp_env.specs.Sound.{IsSound, IsSoundSense};
 
 use crate::{Entry, PlainWires};
@@ -32,13 +31,12 @@ impl Model for Env {
 
     ghost use Rattle.chyp_env.specs.Entry.{entry_of};
     ghost use Rattle.chyp_env.specs.Kept.{IsKept};
-    ghost use Rattle.chyp_env.specs.PlainWires.{ArePlain};
-    ghost use Rattle.chyp_env.specs.Sound.{HasDistinctNames};
+        ghost use Rattle.chyp_env.specs.Sound.{HasDistinctNames};
 
     ghost view = { λ e. map (λ pair. entry_of pair.1) e.entries.entries };
 
     ghost invariant = { λ e. All (λ pair. IsKept pair.0.items pair.1) e.entries.entries
-        × HasDistinctNames (map (λ pair. entry_of pair.1) e.entries.entries) × IfSome e.plain ArePlain };
+        × HasDistinctNames (map (λ pair. entry_of pair.1) e.entries.entries) };
 }
 
 impl Env {
@@ -74,7 +72,6 @@ impl Env {
     ///
     /// `NoMemory` where they can't be kept, or can't be shared once more.
     pub fn plain_wires(&self) -> Result<PlainWires, NoMemory>
-        ensures { IfOk result ArePlain }
     {
         match &self.plain {
             Some(plain) => plain.share(),

@@ -1,23 +1,20 @@
 // The terms that trees stand for.
 ghost use Rattle.std.specs.Prelude.{◌≡◌, ◌<◌, ◌^◌, [], ◌∷◌, length, map, All, IfOk, IfSome, IfNone};
 ghost use Rattle.chyp_term.specs.Derivation.{empty};
-ghost use Rattle.chyp_term.specs.Morphism.{permutation as a_permutation};
 ghost use Rattle.chyp_term.specs.Perm.{IsPermutation};
 ghost use Rattle.chyp_term.specs.Term.{morphism_of};
 ghost use Rattle.chyp_syntax.specs.Term.{tree_of};
-ghost use Rattle.chyp_env.specs.ChunkView.{IsLent, site_of};
 ghost use Rattle.chyp_env.specs.Entry.{sense_of};
 ghost use Rattle.chyp_env.specs.Expansion.{expansion_in, join_of, plain_permutation};
 ghost use Rattle.chyp_term.specs.Halving.{halved};
-ghost use Rattle.chyp_env.specs.PlainWires.{ArePlain};
-ghost use Rattle.chyp_env.specs.Site.{meaning_at, term_of};
+ghost use Rattle.chyp_env.specs.Scope.{meaning_at, term_of};
 ghost use Rattle.chyp_env.specs.Typing.{AllHold, tests_of};
 
-use crate::plain_wires::PlainWires;
-use crate::{ChunkView, Env, Meaning};
+use crate::plain_wires::{PlainWires, permutation};
+use crate::{Meaning, Scope};
 use chyp_base::{NoMemory, Sorts};
-use chyp_syntax::{TermAst, text_at};
-use chyp_term::{Perm, Places, Term, copy};
+use chyp_syntax::TermAst;
+use chyp_term::{Term, copy};
 use std::alloc::Global;
 use std::rc::Rc;
 
@@ -41,27 +38,24 @@ pub(crate) fn expand(
     alloc: Global,
     plain: &PlainWires,
     tree: &TermAst,
-    chunk: &ChunkView<'_>,
-    env: &Env,
+    scope: &Scope<'_>,
 ) -> Result<Term, NoMemory>
-    requires lent { IsLent chunk.now }
-    requires plain { ArePlain plain.now }
-    requires permutations { AllHold (tests_of (meaning_at (site_of [] chunk.now env.now)) (tree_of tree.now)) }
+    requires { AllHold (tests_of (meaning_at scope.now) (tree_of tree.now)) }
     ensures { IfOk result (λ term.
-        morphism_of term ≡ expansion_in (meaning_at (site_of [] chunk.now env.now)) (tree_of tree.now)) }
+        morphism_of term ≡ expansion_in (meaning_at scope.now) (tree_of tree.now)) }
 {
     match tree {
-        TermAst::Named(token) => named(alloc, *token, chunk, env),
-        TermAst::Wire => plain_permutation(alloc, plain, &[0]),
-        TermAst::Empty => no_wires(alloc),
+        TermAst::Named(token) => named(alloc, *token, scope),
+        TermAst::Wire => plain.wire(),
+        TermAst::Empty => plain.none(),
         TermAst::Swap { places, .. } => match places {
             Some(places) => written(alloc, plain, places.as_slice()),
-            None => plain_permutation(alloc, plain, &[1, 0]),
+            None => plain.crossing(),
         },
         TermAst::Chain { parts, .. } => {
-            row(alloc, plain, Join::Then, parts.as_slice(), chunk, env)
+            row(alloc, plain, Join::Then, parts.as_slice(), scope)
         }
-        TermAst::Beside(parts) => row(alloc, plain, Join::Beside, parts.as_slice(), chunk, env),
+        TermAst::Beside(parts) => row(alloc, plain, Join::Beside, parts.as_slice(), scope),
     }
 }
 
@@ -72,23 +66,20 @@ fn row(
     plain: &PlainWires,
     join: Join,
     parts: &[TermAst],
-    chunk: &ChunkView<'_>,
-    env: &Env,
+    scope: &Scope<'_>,
 ) -> Result<Term, NoMemory>
-    requires lent { IsLent chunk.now }
-    requires plain { ArePlain plain.now }
-    requires permutations { All (λ part.
-        AllHold (tests_of (meaning_at (site_of [] chunk.now env.now)) (tree_of part))) parts.now }
+    requires { All (λ part.
+        AllHold (tests_of (meaning_at scope.now) (tree_of part))) parts.now }
     ensures { IfOk result (λ term. morphism_of term ≡ halved (join_of join)
-        (map (λ part. expansion_in (meaning_at (site_of [] chunk.now env.now)) (tree_of part)) parts.now)) }
+        (map (λ part. expansion_in (meaning_at scope.now) (tree_of part)) parts.now)) }
 {
     match parts {
         [] => no_wires(alloc),
-        [part] => expand(alloc, plain, part, chunk, env),
+        [part] => expand(alloc, plain, part, scope),
         _ => {
             let half = parts.len() / 2;
-            let first = row(alloc, plain, join, &parts[..half], chunk, env)?;
-            let rest = row(alloc, plain, join, &parts[half..], chunk, env)?;
+            let first = row(alloc, plain, join, &parts[..half], scope)?;
+            let rest = row(alloc, plain, join, &parts[half..], scope)?;
             joined(alloc, join, first, rest)
         }
     }
@@ -107,11 +98,10 @@ fn joined(alloc: Global, join: Join, first: Term, rest: Term) -> Result<Term, No
 }
 
 // The term that the name of this token stands for.
-fn named(alloc: Global, token: u32, chunk: &ChunkView<'_>, env: &Env) -> Result<Term, NoMemory>
-    requires { IsLent chunk.now }
-    ensures { IfOk result (λ term. morphism_of term ≡ meaning_at (site_of [] chunk.now env.now) token) }
+fn named(alloc: Global, token: u32, scope: &Scope<'_>) -> Result<Term, NoMemory>
+    ensures { IfOk result (λ term. morphism_of term ≡ meaning_at scope.now token) }
 {
-    match env.lookup(text_at(chunk.first, chunk.tokens, token)) {
+    match scope.entry_at(token) {
         Some(entry) => meant(alloc, &entry.meaning),
         None => no_wires(alloc),
     }
@@ -139,20 +129,9 @@ fn no_wires(alloc: Global) -> Result<Term, NoMemory>
     permutation(alloc, Sorts::from_vec(Vec::new(alloc)), Vec::new(alloc))
 }
 
-// The permutation of plain wires with these places.
-fn plain_permutation(alloc: Global, plain: &PlainWires, places: &[u32]) -> Result<Term, NoMemory>
-    requires plain { ArePlain plain.now }
-    requires permutation { IsPermutation (length places.now) places.now }
-    ensures { IfOk result (λ term. morphism_of term ≡ plain_permutation places.now) }
-{
-    let sorts = plain.wires(alloc, places.len())?;
-    permutation(alloc, sorts, Vec::from_slice(alloc, places)?)
-}
-
 // The permutation of plain wires with the places that stand in the text.
 fn written(alloc: Global, plain: &PlainWires, places: &[u64]) -> Result<Term, NoMemory>
-    requires plain { ArePlain plain.now }
-    requires permutation { IsPermutation (length places.now) places.now }
+    requires { IsPermutation (length places.now) places.now }
     ensures { IfOk result (λ term. morphism_of term ≡ plain_permutation places.now) }
 {
     match narrowed(alloc, places)? {
@@ -160,20 +139,6 @@ fn written(alloc: Global, plain: &PlainWires, places: &[u64]) -> Result<Term, No
             let sorts = plain.wires(alloc, narrow.len())?;
             permutation(alloc, sorts, narrow)
         }
-        None => unreachable!(),
-    }
-}
-
-// The permutation of these wires with these places.
-fn permutation(alloc: Global, sorts: Sorts, places: Vec<u32>) -> Result<Term, NoMemory>
-    requires { IsPermutation (length places.items) places.items }
-    ensures { IfOk result (λ term. morphism_of term ≡ a_permutation sorts places.items) }
-{
-    match Perm::new(Places::from_vec(places)) {
-        Some(perm) => Ok(Term::Perm {
-            sorts,
-            perm: Rc::new(alloc, perm)?,
-        }),
         None => unreachable!(),
     }
 }

@@ -3,18 +3,16 @@ ghost use Rattle.std.specs.Prelude.{◌≡◌, ℕ, [], IfOk, IsOk, Err};
 ghost use Rattle.chyp_term.specs.Limits.{IsWithinLimits};
 ghost use Rattle.chyp_term.specs.Term.{morphism_of};
 ghost use Rattle.chyp_syntax.specs.Term.{tree_of};
-ghost use Rattle.chyp_env.specs.ChunkView.{IsLent, site_of};
 ghost use Rattle.chyp_env.specs.Expansion.{expansion_in};
-ghost use Rattle.chyp_env.specs.PlainWires.{ArePlain};
 ghost use Rattle.chyp_env.specs.Shape.{IsShape};
-ghost use Rattle.chyp_env.specs.Site.{meaning_at};
+ghost use Rattle.chyp_env.specs.Scope.{meaning_at};
 ghost use Rattle.chyp_env.specs.Sizes.{AreSizes};
 ghost use Rattle.chyp_env.specs.Typing.{AllHold, FailsFirst, tests_of};
 
 use crate::expansion::expand;
 use crate::sizes::sizes_of;
 use crate::typing::shape_of_tree;
-use crate::{ChunkView, Env, PlainWires, Sizes, TypeFault};
+use crate::{PlainWires, Scope, Sizes, TypeFault};
 use chyp_base::NoMemory;
 use chyp_syntax::TermAst;
 use chyp_term::{Shape, Term, copy};
@@ -76,20 +74,17 @@ impl KnownTerm {
         alloc: Global,
         plain: &PlainWires,
         tree: &TermAst,
-        chunk: &ChunkView<'_>,
-        env: &Env,
+        scope: &Scope<'_>,
     ) -> Result<KnownTerm, TypeFault>
-        requires lent { IsLent chunk.now }
-        requires plain { ArePlain plain.now }
-        requires small { IsWithinLimits (expansion_in (meaning_at (site_of [] chunk.now env.now)) (tree_of tree.now)) }
-        ensures holds { IsOk result → AllHold (tests_of (meaning_at (site_of [] chunk.now env.now)) (tree_of tree.now)) }
-        ensures term { IfOk result (λ known. known ≡ expansion_in (meaning_at (site_of [] chunk.now env.now)) (tree_of tree.now)) }
+        requires { IsWithinLimits (expansion_in (meaning_at scope.now) (tree_of tree.now)) }
+        ensures holds { IsOk result → AllHold (tests_of (meaning_at scope.now) (tree_of tree.now)) }
+        ensures term { IfOk result (λ known. known ≡ expansion_in (meaning_at scope.now) (tree_of tree.now)) }
         ensures fails { (token : ℕ) → result ≡ Err (TypeFault.Fails token) →
-            FailsFirst (tests_of (meaning_at (site_of [] chunk.now env.now)) (tree_of tree.now)) token }
+            FailsFirst (tests_of (meaning_at scope.now) (tree_of tree.now)) token }
     {
-        let shape = shape_of_tree(alloc, plain, tree, chunk, env)?;
-        let sizes = sizes_of(tree, chunk, env);
-        let term = expand(alloc, plain, tree, chunk, env)?;
+        let shape = shape_of_tree(alloc, plain, tree, scope)?;
+        let sizes = sizes_of(tree, scope);
+        let term = expand(alloc, plain, tree, scope)?;
         Ok(KnownTerm::new(term, shape, sizes)?)
     }
 

@@ -1,18 +1,39 @@
-// Plain wires, in lists that terms share.
-ghost use Rattle.std.specs.Prelude.{◌≡◌, IfOk};
+// Plain wires, in lists and terms that are shared.
+ghost use Rattle.std.specs.Prelude.{◌≡◌, [], ◌∷◌, IfOk, length};
 ghost use Rattle.chyp_base.specs.Sort.{plain as the_plain};
-ghost use Rattle.chyp_env.specs.Expansion.{plain_wires};
-ghost use Rattle.chyp_env.specs.PlainWires.{ArePlain};
+ghost use Rattle.chyp_term.specs.Morphism.{permutation as a_permutation};
+ghost use Rattle.chyp_term.specs.Perm.{IsPermutation};
+ghost use Rattle.chyp_term.specs.Term.{morphism_of};
+ghost use Rattle.chyp_env.specs.Expansion.{plain_permutation, plain_wires};
 
 use chyp_base::{NoMemory, Sort, Sorts};
+use chyp_term::{Perm, Places, Term, copy};
 use std::alloc::Global;
+use std::marker::Model;
+use std::rc::Rc;
 
-/// The sort of a plain wire, and the lists of plain wires that most terms have.
-#[derive(Debug, Drop)]
+/// The sort of a plain wire, the lists of plain wires that most terms have, and the terms of `id0`, `id`
+/// and `sw`.
+#[derive(Drop)]
 pub struct PlainWires {
-    pub(crate) sort: Sort,
-    pub(crate) one: Sorts,
-    pub(crate) two: Sorts,
+    sort: Sort,
+    one: Sorts,
+    two: Sorts,
+    none: Term,
+    wire: Term,
+    crossing: Term,
+}
+
+impl Model for PlainWires {
+    ghost use Rattle.chyp_term.specs.Term.{morphism_of};
+    ghost use Rattle.chyp_env.specs.PlainWires.{ArePlain, AreShared};
+
+    ghost Value = { Unit {0} };
+
+    ghost view = { λ p. tt };
+
+    ghost invariant = { λ p. ArePlain p.sort p.one p.two
+        × AreShared (morphism_of p.none) (morphism_of p.wire) (morphism_of p.crossing) };
 }
 
 impl PlainWires {
@@ -21,13 +42,21 @@ impl PlainWires {
     /// # Errors
     ///
     /// `NoMemory` where they can't be kept.
-    pub fn new(alloc: Global) -> Result<PlainWires, NoMemory>
-        ensures { IfOk result ArePlain }
-    {
+    pub fn new(alloc: Global) -> Result<PlainWires, NoMemory> {
         let sort = Sort::plain(alloc)?;
         let one = repeated(alloc, &sort, 1)?.into_shared()?;
         let two = repeated(alloc, &sort, 2)?.into_shared()?;
-        Ok(PlainWires { sort, one, two })
+        let none = permutation(alloc, repeated(alloc, &sort, 0)?, Vec::new(alloc))?;
+        let wire = permutation(alloc, one.share()?, vec![in alloc; 0]?)?;
+        let crossing = permutation(alloc, two.share()?, vec![in alloc; 1, 0]?)?;
+        Ok(PlainWires {
+            sort,
+            one,
+            two,
+            none,
+            wire,
+            crossing,
+        })
     }
 
     /// The same plain wires.
@@ -35,14 +64,14 @@ impl PlainWires {
     /// # Errors
     ///
     /// `NoMemory` where they can't be shared once more.
-    pub(crate) fn share(&self) -> Result<PlainWires, NoMemory>
-        requires { ArePlain self.now }
-        ensures { IfOk result ArePlain }
-    {
+    pub(crate) fn share(&self) -> Result<PlainWires, NoMemory> {
         Ok(PlainWires {
             sort: self.sort.share()?,
             one: self.one.share()?,
             two: self.two.share()?,
+            none: copy(&self.none)?,
+            wire: copy(&self.wire)?,
+            crossing: copy(&self.crossing)?,
         })
     }
 
@@ -52,7 +81,6 @@ impl PlainWires {
     ///
     /// `NoMemory` where the list can't be kept, or can't be shared once more.
     pub fn wires(&self, alloc: Global, count: usize) -> Result<Sorts, NoMemory>
-        requires { ArePlain self.now }
         ensures { IfOk result (λ sorts. sorts ≡ plain_wires count) }
     {
         match count {
@@ -60,6 +88,39 @@ impl PlainWires {
             2 => self.two.share(),
             _ => repeated(alloc, &self.sort, count)?.into_shared(),
         }
+    }
+
+    /// The term of `id0`.
+    ///
+    /// # Errors
+    ///
+    /// `NoMemory` where it can't be shared once more.
+    pub(crate) fn none(&self) -> Result<Term, NoMemory>
+        ensures { IfOk result (λ term. morphism_of term ≡ plain_permutation []) }
+    {
+        copy(&self.none)
+    }
+
+    /// The term of `id`.
+    ///
+    /// # Errors
+    ///
+    /// `NoMemory` where it can't be shared once more.
+    pub(crate) fn wire(&self) -> Result<Term, NoMemory>
+        ensures { IfOk result (λ term. morphism_of term ≡ plain_permutation (0 ∷ [])) }
+    {
+        copy(&self.wire)
+    }
+
+    /// The term of `sw`.
+    ///
+    /// # Errors
+    ///
+    /// `NoMemory` where it can't be shared once more.
+    pub(crate) fn crossing(&self) -> Result<Term, NoMemory>
+        ensures { IfOk result (λ term. morphism_of term ≡ plain_permutation (1 ∷ 0 ∷ [])) }
+    {
+        copy(&self.crossing)
     }
 }
 
@@ -73,4 +134,22 @@ fn repeated(alloc: Global, sort: &Sort, count: usize) -> Result<Sorts, NoMemory>
         sorts.push(sort.share()?)?;
     }
     Ok(Sorts::from_vec(sorts))
+}
+
+/// The permutation of these wires with these places.
+///
+/// # Errors
+///
+/// `NoMemory` where it can't be kept.
+pub(crate) fn permutation(alloc: Global, sorts: Sorts, places: Vec<u32>) -> Result<Term, NoMemory>
+    requires { IsPermutation (length places.items) places.items }
+    ensures { IfOk result (λ term. morphism_of term ≡ a_permutation sorts places.items) }
+{
+    match Perm::new(Places::from_vec(places)) {
+        Some(perm) => Ok(Term::Perm {
+            sorts,
+            perm: Rc::new(alloc, perm)?,
+        }),
+        None => unreachable!(),
+    }
 }

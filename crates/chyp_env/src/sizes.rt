@@ -3,16 +3,15 @@ ghost use Rattle.std.specs.Prelude.{◌≡◌, ℕ, List, [], length, map};
 ghost use Rattle.chyp_base.specs.declared.sort.Sort.{Sort};
 ghost use Rattle.chyp_term.specs.Morphism.{Morphism, generator as a_generator, permutation};
 ghost use Rattle.chyp_syntax.specs.Term.{tree_of};
-ghost use Rattle.chyp_env.specs.ChunkView.{IsLent, site_of};
 ghost use Rattle.chyp_env.specs.Entry.{sense_of};
 ghost use Rattle.chyp_env.specs.Expansion.{expansion_in, join_of};
 ghost use Rattle.chyp_term.specs.Halving.{halved};
 ghost use Rattle.chyp_env.specs.Sizes.{AreSizes};
-ghost use Rattle.chyp_env.specs.Site.{meaning_at, term_of};
+ghost use Rattle.chyp_env.specs.Scope.{meaning_at, term_of};
 
 use crate::expansion::Join;
-use crate::{ChunkView, Env, Meaning};
-use chyp_syntax::{TermAst, text_at};
+use crate::{Meaning, Scope};
+use chyp_syntax::TermAst;
 use chyp_term::Shape;
 
 /// The measures of a term, each 2^64 - 1 where it is greater.
@@ -29,38 +28,36 @@ pub struct Sizes {
 /// The measures of the term that a tree stands for, which isn't made. It takes no memory, and goes by
 /// recursion as deep as that term.
 #[cycle(sizes)]
-pub fn sizes_of(tree: &TermAst, chunk: &ChunkView<'_>, env: &Env) -> Sizes
-    requires { IsLent chunk.now }
-    ensures { AreSizes result (expansion_in (meaning_at (site_of [] chunk.now env.now)) (tree_of tree.now)) }
+pub fn sizes_of(tree: &TermAst, scope: &Scope<'_>) -> Sizes
+    ensures { AreSizes result (expansion_in (meaning_at scope.now) (tree_of tree.now)) }
 {
     match tree {
-        TermAst::Named(token) => sizes_of_name(*token, chunk, env),
+        TermAst::Named(token) => sizes_of_name(*token, scope),
         TermAst::Wire => sizes_of_permutation(1),
         TermAst::Empty => sizes_of_permutation(0),
         TermAst::Swap { places, .. } => match places {
             Some(places) => sizes_of_permutation(places.len()),
             None => sizes_of_permutation(2),
         },
-        TermAst::Chain { parts, .. } => sizes_of_row(parts.as_slice(), chunk, env),
-        TermAst::Beside(parts) => sizes_of_row(parts.as_slice(), chunk, env),
+        TermAst::Chain { parts, .. } => sizes_of_row(parts.as_slice(), scope),
+        TermAst::Beside(parts) => sizes_of_row(parts.as_slice(), scope),
     }
 }
 
 // The measures of parts in a row, however they are joined: the first half of them, rounded down, and
 // then the rest.
 #[cycle(sizes)]
-fn sizes_of_row(parts: &[TermAst], chunk: &ChunkView<'_>, env: &Env) -> Sizes
-    requires { IsLent chunk.now }
+fn sizes_of_row(parts: &[TermAst], scope: &Scope<'_>) -> Sizes
     ensures { (join : Join) → AreSizes result (halved (join_of join)
-        (map (λ part. expansion_in (meaning_at (site_of [] chunk.now env.now)) (tree_of part)) parts.now)) }
+        (map (λ part. expansion_in (meaning_at scope.now) (tree_of part)) parts.now)) }
 {
     match parts {
         [] => sizes_of_permutation(0),
-        [part] => sizes_of(part, chunk, env),
+        [part] => sizes_of(part, scope),
         _ => {
             let half = parts.len() / 2;
-            let first = sizes_of_row(&parts[..half], chunk, env);
-            let rest = sizes_of_row(&parts[half..], chunk, env);
+            let first = sizes_of_row(&parts[..half], scope);
+            let rest = sizes_of_row(&parts[half..], scope);
             joined_sizes(first, rest)
         }
     }
@@ -89,11 +86,10 @@ fn sizes_of_permutation(count: usize) -> Sizes
 }
 
 // The measures of the term that the name of this token stands for.
-fn sizes_of_name(token: u32, chunk: &ChunkView<'_>, env: &Env) -> Sizes
-    requires { IsLent chunk.now }
-    ensures { AreSizes result (meaning_at (site_of [] chunk.now env.now) token) }
+fn sizes_of_name(token: u32, scope: &Scope<'_>) -> Sizes
+    ensures { AreSizes result (meaning_at scope.now token) }
 {
-    match env.lookup(text_at(chunk.first, chunk.tokens, token)) {
+    match scope.entry_at(token) {
         Some(entry) => sizes_of_meaning(&entry.meaning),
         None => sizes_of_permutation(0),
     }

@@ -4,20 +4,18 @@ ghost use Rattle.chyp_term.specs.Derivation.{empty};
 ghost use Rattle.chyp_term.specs.Morphism.{dom, cod};
 ghost use Rattle.chyp_syntax.specs.Term.{tree_of, chain, beside as tensor, terms_of};
 ghost use Rattle.chyp_term.specs.Perm.{IsPermutation};
-ghost use Rattle.chyp_env.specs.ChunkView.{IsLent, site_of};
 ghost use Rattle.chyp_env.specs.Entry.{sense_of};
 ghost use Rattle.chyp_env.specs.Expansion.{expansion_in, plain_permutation};
-ghost use Rattle.chyp_env.specs.PlainWires.{ArePlain};
 ghost use Rattle.chyp_env.specs.Shape.{IsShape};
-ghost use Rattle.chyp_env.specs.Site.{meaning_at, term_of};
+ghost use Rattle.chyp_env.specs.Scope.{meaning_at, term_of};
 ghost use Rattle.chyp_env.specs.Typing.{AllHold, FailsFirst, tests_of};
 
 use crate::expansion::narrowed;
 use crate::known_term::share_shape;
 use crate::plain_wires::PlainWires;
-use crate::{ChunkView, Env, Meaning};
+use crate::{Meaning, Scope};
 use chyp_base::{NoMemory, Sorts};
-use chyp_syntax::{TermAst, text_at};
+use chyp_syntax::TermAst;
 use chyp_term::{Perm, Places, Shape};
 use std::alloc::Global;
 
@@ -55,29 +53,26 @@ pub(crate) fn shape_of_tree(
     alloc: Global,
     plain: &PlainWires,
     tree: &TermAst,
-    chunk: &ChunkView<'_>,
-    env: &Env,
+    scope: &Scope<'_>,
 ) -> Result<Shape, TypeFault>
-    requires lent { IsLent chunk.now }
-    requires plain { ArePlain plain.now }
-    ensures holds { IsOk result → AllHold (tests_of (meaning_at (site_of [] chunk.now env.now)) (tree_of tree.now)) }
+    ensures holds { IsOk result → AllHold (tests_of (meaning_at scope.now) (tree_of tree.now)) }
     ensures shape { IfOk result (λ shape.
-        IsShape shape (expansion_in (meaning_at (site_of [] chunk.now env.now)) (tree_of tree.now))) }
+        IsShape shape (expansion_in (meaning_at scope.now) (tree_of tree.now))) }
     ensures fails { (token : ℕ) → result ≡ Err (TypeFault.Fails token) →
-        FailsFirst (tests_of (meaning_at (site_of [] chunk.now env.now)) (tree_of tree.now)) token }
+        FailsFirst (tests_of (meaning_at scope.now) (tree_of tree.now)) token }
 {
     match tree {
-        TermAst::Named(token) => Ok(shape_of_name(alloc, *token, chunk, env)?),
+        TermAst::Named(token) => Ok(shape_of_name(alloc, *token, scope)?),
         TermAst::Wire => Ok(plain_shape(alloc, plain, 1)?),
-        TermAst::Empty => Ok(plain_shape(alloc, plain, 0)?),
+        TermAst::Empty => Ok(no_wires(alloc)),
         TermAst::Swap { token, places } => match places {
             Some(places) => shape_of_swap(alloc, plain, *token, places.as_slice()),
             None => Ok(plain_shape(alloc, plain, 2)?),
         },
         TermAst::Chain { parts, semis } => {
-            shape_of_chain(alloc, plain, parts.as_slice(), semis.as_slice(), chunk, env)
+            shape_of_chain(alloc, plain, parts.as_slice(), semis.as_slice(), scope)
         }
-        TermAst::Beside(parts) => shape_of_tensor(alloc, plain, parts.as_slice(), chunk, env),
+        TermAst::Beside(parts) => shape_of_tensor(alloc, plain, parts.as_slice(), scope),
     }
 }
 
@@ -88,24 +83,21 @@ fn shape_of_chain(
     plain: &PlainWires,
     parts: &[TermAst],
     semis: &[u32],
-    chunk: &ChunkView<'_>,
-    env: &Env,
+    scope: &Scope<'_>,
 ) -> Result<Shape, TypeFault>
-    requires lent { IsLent chunk.now }
-    requires plain { ArePlain plain.now }
     ensures holds { IsOk result → AllHold
-        (tests_of (meaning_at (site_of [] chunk.now env.now)) (chain (terms_of (map tree_of parts.now)) semis.now)) }
+        (tests_of (meaning_at scope.now) (chain (terms_of (map tree_of parts.now)) semis.now)) }
     ensures shape { IfOk result (λ shape.
-        IsShape shape (expansion_in (meaning_at (site_of [] chunk.now env.now)) (chain (terms_of (map tree_of parts.now)) semis.now))) }
+        IsShape shape (expansion_in (meaning_at scope.now) (chain (terms_of (map tree_of parts.now)) semis.now))) }
     ensures fails { (token : ℕ) → result ≡ Err (TypeFault.Fails token) →
-        FailsFirst (tests_of (meaning_at (site_of [] chunk.now env.now)) (chain (terms_of (map tree_of parts.now)) semis.now)) token }
+        FailsFirst (tests_of (meaning_at scope.now) (chain (terms_of (map tree_of parts.now)) semis.now)) token }
 {
     let Some(first) = parts.first() else {
-        return Ok(plain_shape(alloc, plain, 0)?);
+        return Ok(no_wires(alloc));
     };
-    let mut shape = shape_of_tree(alloc, plain, first, chunk, env)?;
+    let mut shape = shape_of_tree(alloc, plain, first, scope)?;
     for i in 0..parts.len() - 1 {
-        let next = shape_of_tree(alloc, plain, &parts[i + 1], chunk, env)?;
+        let next = shape_of_tree(alloc, plain, &parts[i + 1], scope)?;
         let token = token_at(semis, i);
         shape = composed(shape, next, token)?;
     }
@@ -118,22 +110,19 @@ fn shape_of_tensor(
     alloc: Global,
     plain: &PlainWires,
     parts: &[TermAst],
-    chunk: &ChunkView<'_>,
-    env: &Env,
+    scope: &Scope<'_>,
 ) -> Result<Shape, TypeFault>
-    requires lent { IsLent chunk.now }
-    requires plain { ArePlain plain.now }
     ensures holds { IsOk result → AllHold
-        (tests_of (meaning_at (site_of [] chunk.now env.now)) (tensor (terms_of (map tree_of parts.now)))) }
+        (tests_of (meaning_at scope.now) (tensor (terms_of (map tree_of parts.now)))) }
     ensures shape { IfOk result (λ shape.
-        IsShape shape (expansion_in (meaning_at (site_of [] chunk.now env.now)) (tensor (terms_of (map tree_of parts.now))))) }
+        IsShape shape (expansion_in (meaning_at scope.now) (tensor (terms_of (map tree_of parts.now))))) }
     ensures fails { (token : ℕ) → result ≡ Err (TypeFault.Fails token) →
-        FailsFirst (tests_of (meaning_at (site_of [] chunk.now env.now)) (tensor (terms_of (map tree_of parts.now)))) token }
+        FailsFirst (tests_of (meaning_at scope.now) (tensor (terms_of (map tree_of parts.now)))) token }
 {
     let mut dom = Sorts::from_vec(Vec::new(alloc));
     let mut cod = Sorts::from_vec(Vec::new(alloc));
     for part in parts {
-        let shape = shape_of_tree(alloc, plain, part, chunk, env)?;
+        let shape = shape_of_tree(alloc, plain, part, scope)?;
         dom = dom.beside(&shape.dom)?;
         cod = cod.beside(&shape.cod)?;
     }
@@ -174,7 +163,6 @@ fn shape_of_swap(
     token: u32,
     places: &[u64],
 ) -> Result<Shape, TypeFault>
-    requires { ArePlain plain.now }
     ensures permutes { IsOk result → IsPermutation (length places.now) places.now }
     ensures shape { IfOk result (λ shape. IsShape shape (plain_permutation places.now)) }
     ensures fails { (at : ℕ) → result ≡ Err (TypeFault.Fails at) → (at ≡ token) × ¬ IsPermutation (length places.now) places.now }
@@ -190,7 +178,6 @@ fn shape_of_swap(
 
 // The type of a permutation of so many plain wires.
 fn plain_shape(alloc: Global, plain: &PlainWires, count: usize) -> Result<Shape, NoMemory>
-    requires { ArePlain plain.now }
     ensures { IfOk result (λ shape. (places : List ℕ) → length places ≡ count → IsPermutation (length places) places
         → IsShape shape (plain_permutation places)) }
 {
@@ -203,13 +190,11 @@ fn plain_shape(alloc: Global, plain: &PlainWires, count: usize) -> Result<Shape,
 fn shape_of_name(
     alloc: Global,
     token: u32,
-    chunk: &ChunkView<'_>,
-    env: &Env,
+    scope: &Scope<'_>,
 ) -> Result<Shape, NoMemory>
-    requires { IsLent chunk.now }
-    ensures { IfOk result (λ shape. IsShape shape (meaning_at (site_of [] chunk.now env.now) token)) }
+    ensures { IfOk result (λ shape. IsShape shape (meaning_at scope.now token)) }
 {
-    match env.lookup(text_at(chunk.first, chunk.tokens, token)) {
+    match scope.entry_at(token) {
         Some(entry) => shape_of_meaning(alloc, &entry.meaning),
         None => Ok(no_wires(alloc)),
     }

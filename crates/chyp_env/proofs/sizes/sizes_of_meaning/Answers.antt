@@ -1,7 +1,7 @@
 use Rattle.std.proofs.Common.{[], refl, sym, subst, ⊎_elim}
 use Rattle.chyp_env.specs.declared.meaning.Meaning.{Meaning}
 use Rattle.chyp_env.specs.Entry.{sense_of}
-use Rattle.chyp_env.specs.Site.{term_of}
+use Rattle.chyp_env.specs.Scope.{term_of}
 use Rattle.chyp_env.specs.Sizes.{AreSizes}
 use Rattle.chyp_env.proofs.sizes.sizes_of_meaning.Goals as goal
 

@@ -7,10 +7,9 @@ use Rattle.chyp_term.specs.Morphism.{Morphism, dom, cod, IsTyped}
 use Rattle.chyp_term.specs.Perm.{IsPermutation}
 use Rattle.chyp_syntax.specs.declared.term.TermAst.TheVariants.{Swap}
 use Rattle.chyp_syntax.proofs.Trees.{tree_of-Wire, tree_of-Swap}
-use Rattle.chyp_env.specs.ChunkView.{site_of}
 use Rattle.chyp_env.specs.Expansion.{expansion_in}
 use Rattle.chyp_env.specs.Shape.{IsShape}
-use Rattle.chyp_env.specs.Site.{meaning_at}
+use Rattle.chyp_env.specs.Scope.{meaning_at}
 use Rattle.chyp_env.specs.Typing.{FailsFirst}
 use Rattle.chyp_env.proofs.Failing.{swap_fails}
 use Rattle.chyp_env.proofs.Halves.{part_in}
@@ -21,15 +20,15 @@ use Rattle.chyp_env.proofs.typing.+shapes.Goals as goal
 
 pub shape_of_chain-returns-in_err-shape-clause-fails : goal.shape_of_chain-returns-in_err-shape-clause-fails
 shape_of_chain-returns-in_err-shape-clause-fails t c = λ token e.
-    let meaning = meaning_at (site_of [] c.args.chunk.now c.args.env.now) in
-    let p = err_from_is_err_and c.from_residual-in_err-shape.result c.from_residual-in_err-shape.ensures.1 in
+    let meaning = meaning_at c.args.scope.now in
+    let p = err_from_is_err_and c.from_residual.result c.from_residual.ensures.1 in
     let item = c.in-Some.ensures.item in
     let f = c.in_err-shape.ensures.fails token (cc) in
     chain-first-fails meaning c.args.parts.now c.args.semis.now c.in-Some.first.now token item.3.0 item.1 f
 
 pub shape_of_chain-loop-i-init : goal.shape_of_chain-loop-i-init
 shape_of_chain-loop-i-init t c =
-    let meaning = meaning_at (site_of [] c.args.chunk.now c.args.env.now) in
+    let meaning = meaning_at c.args.scope.now in
     let parts = c.args.parts.now in
     let part = c.in-Some.first.now in
     let item = c.in-Some.ensures.item in
@@ -51,11 +50,11 @@ shape_of_chain-shape_of_tree-requires-in-loop-i t c =
     let within : c.loop-i.i + 1 < length items = omega arith in
     let part = part_nodes items (c.loop-i.i + 1) c.index-parts-i.result within c.index-parts-i.is in
     let dec = c.decreases in
-    (omega arith, (c.requires.lent, c.requires.plain))
+    omega arith
 
 pub shape_of_chain-returns-in_err-next-clause-fails : goal.shape_of_chain-returns-in_err-next-clause-fails
 shape_of_chain-returns-in_err-next-clause-fails t c = λ token e.
-    let meaning = meaning_at (site_of [] c.args.chunk.now c.args.env.now) in
+    let meaning = meaning_at c.args.scope.now in
     let p = err_from_is_err_and c.from_residual-in_err-next.result c.from_residual-in_err-next.ensures.1 in
     let i = c.loop-i.i in
     let within : i + 1 < length c.args.parts.now = omega arith in
@@ -63,7 +62,7 @@ shape_of_chain-returns-in_err-next-clause-fails t c = λ token e.
 
 pub shape_of_chain-returns-in_err-shape-2-clause-fails : goal.shape_of_chain-returns-in_err-shape-2-clause-fails
 shape_of_chain-returns-in_err-shape-2-clause-fails t c = λ token e.
-    let meaning = meaning_at (site_of [] c.args.chunk.now c.args.env.now) in
+    let meaning = meaning_at c.args.scope.now in
     let p = err_from_is_err_and c.from_residual-in_err-shape-2.result c.from_residual-in_err-shape-2.ensures.1 in
     let i = c.loop-i.i in
     let parts = c.args.parts.now in
@@ -78,7 +77,7 @@ shape_of_chain-returns-in_err-shape-2-clause-fails t c = λ token e.
 
 pub shape_of_chain-loop-i-preserved : goal.shape_of_chain-loop-i-preserved
 shape_of_chain-loop-i-preserved t c =
-    let meaning = meaning_at (site_of [] c.args.chunk.now c.args.env.now) in
+    let meaning = meaning_at c.args.scope.now in
     let parts = c.args.parts.now in
     let i = c.loop-i.i in
     let part = c.index-parts-i.result in
@@ -97,7 +96,7 @@ shape_of_chain-loop-i-preserved t c =
 
 pub shape_of_chain-returns-clause-shape : goal.shape_of_chain-returns-clause-shape
 shape_of_chain-returns-clause-shape t c =
-    let meaning = meaning_at (site_of [] c.args.chunk.now c.args.env.now) in
+    let meaning = meaning_at c.args.scope.now in
     let parts = c.args.parts.now in
     let i = c.loop-i.i in
     let now = c.loop-i.invariant in
@@ -110,18 +109,18 @@ shape_of_tensor-shape_of_tree-requires t c =
     let items = c.args.parts.now in
     let part = part_nodes items c.loop-part.part-index c.part-item.result c.loop-part-test.true c.part-item.is in
     let dec = c.decreases in
-    (omega arith, (c.requires.lent, c.requires.plain))
+    omega arith
 
 pub shape_of_tensor-returns-in_err-shape-clause-fails : goal.shape_of_tensor-returns-in_err-shape-clause-fails
 shape_of_tensor-returns-in_err-shape-clause-fails t c = λ token e.
-    let meaning = meaning_at (site_of [] c.args.chunk.now c.args.env.now) in
+    let meaning = meaning_at c.args.scope.now in
     let p = err_from_is_err_and c.from_residual.result c.from_residual.ensures.1 in
     tensor-next-fails meaning c.args.parts.now c.loop-part.part-index c.part-item.result token c.loop-part-test.true c.part-item.is c.loop-part.invariant.reaches
     (c.in_err-shape.ensures.fails token (cc))
 
 pub shape_of_tensor-loop-part-preserved : goal.shape_of_tensor-loop-part-preserved
 shape_of_tensor-loop-part-preserved t c =
-    let meaning = meaning_at (site_of [] c.args.chunk.now c.args.env.now) in
+    let meaning = meaning_at c.args.scope.now in
     let parts = c.args.parts.now in
     let i = c.loop-part.part-index in
     let part = c.part-item.result in
@@ -137,19 +136,19 @@ shape_of_tensor-loop-part-preserved t c =
 
 pub shape_of_tensor-returns-clause-shape : goal.shape_of_tensor-returns-clause-shape
 shape_of_tensor-returns-clause-shape t c =
-    let meaning = meaning_at (site_of [] c.args.chunk.now c.args.env.now) in
+    let meaning = meaning_at c.args.scope.now in
     let now = c.loop-part.invariant in
     tensor_shape meaning c.args.parts.now c.loop-part.part-index (record { dom = c.loop-part.dom; cod = c.loop-part.cod }) c.loop-part-test.false now.dom now.cod now.typed
 
 pub shape_of_tree-returns-in_ok-plain_shape-in-Wire-clause-shape : goal.shape_of_tree-returns-in_ok-plain_shape-in-Wire-clause-shape
 shape_of_tree-returns-in_ok-plain_shape-in-Wire-clause-shape t c =
-    let meaning = meaning_at (site_of [] c.args.chunk.now c.args.env.now) in
+    let meaning = meaning_at c.args.scope.now in
     subst (λ (m : Morphism). IsShape c.in_ok-plain_shape-in-Wire.field-0 m) (sym (ap (part_in meaning) c.in-Wire.is ∙ ap (expansion_in meaning) tree_of-Wire))
     (c.in_ok-plain_shape-in-Wire.ensures (0 ∷ []) refl one_place)
 
 pub shape_of_tree-returns-in-Some-clause-fails : goal.shape_of_tree-returns-in-Some-clause-fails
 shape_of_tree-returns-in-Some-clause-fails t c = λ token e.
-    let meaning = meaning_at (site_of [] c.args.chunk.now c.args.env.now) in
+    let meaning = meaning_at c.args.scope.now in
     let places = c.in-Some.places in
     let fault = c.shape_of_swap.ensures.fails token e in
     let wrong = λ (permutes : IsPermutation (length places) places). fault.1 (subst (λ (ps : List ℕ). IsPermutation (length ps) ps) (sym c.as_slice.ensures) permutes) in
@@ -157,17 +156,17 @@ shape_of_tree-returns-in-Some-clause-fails t c = λ token e.
 
 pub shape_of_tree-returns-in_ok-plain_shape-in-None-clause-shape : goal.shape_of_tree-returns-in_ok-plain_shape-in-None-clause-shape
 shape_of_tree-returns-in_ok-plain_shape-in-None-clause-shape t c =
-    let meaning = meaning_at (site_of [] c.args.chunk.now c.args.env.now) in
+    let meaning = meaning_at c.args.scope.now in
     subst (λ (m : Morphism). IsShape c.in_ok-plain_shape-in-None.field-0 m)
     (sym (ap (part_in meaning) (c.in-Swap.is ∙ ap (Swap c.in-Swap.token) c.in-None.is) ∙ ap (expansion_in meaning) (tree_of-Swap c.in-Swap.token None)))
     (c.in_ok-plain_shape-in-None.ensures (1 ∷ 0 ∷ []) refl two_places)
 
 pub shape_of_chain-returns-clause-holds : goal.shape_of_chain-returns-clause-holds
 shape_of_chain-returns-clause-holds t c = λ ok.
-    let meaning = meaning_at (site_of [] c.args.chunk.now c.args.env.now) in
+    let meaning = meaning_at c.args.scope.now in
     let past : length c.args.parts.now ≤ c.loop-i.i + 1 = omega arith in
     chain-last meaning c.args.parts.now c.args.semis.now c.loop-i.i past c.loop-i.invariant.reaches
 
 pub shape_of_tensor-returns-clause-holds : goal.shape_of_tensor-returns-clause-holds
 shape_of_tensor-returns-clause-holds t c = λ ok.
-    tensor-last (meaning_at (site_of [] c.args.chunk.now c.args.env.now)) c.args.parts.now c.loop-part.part-index c.loop-part-test.false c.loop-part.invariant.reaches
+    tensor-last (meaning_at c.args.scope.now) c.args.parts.now c.loop-part.part-index c.loop-part-test.false c.loop-part.invariant.reaches

@@ -8,8 +8,8 @@ use Rattle.chyp_env.proofs.typing.shape_of_name.Goals as goal
 
 pub returns-in-Some : goal.returns-in-Some
 returns-in-Some c =
-    let some = bound_term c.args.env.now c.text_at.result.now _ (entry_of c.in-Some.entry.now) c.text_at.ensures c.in-Some.ensures.some in
+    let some = bound_term c.args.scope.now c.args.token (entry_of c.in-Some.entry.now) c.in-Some.ensures.some in
     subst (λ (m : Morphism). IfOk c.shape_of_meaning.result (λ (shape : Shape). IsShape shape m)) some c.shape_of_meaning.ensures
 
 pub returns-in-None : goal.returns-in-None
-returns-in-None c = subst (IsShape c.no_wires.result) (unbound_term c.args.env.now c.text_at.result.now _ c.text_at.ensures c.in-None.ensures.none) c.no_wires.ensures
+returns-in-None c = subst (IsShape c.no_wires.result) (unbound_term c.args.scope.now c.args.token c.in-None.ensures.none) c.no_wires.ensures

@@ -11,7 +11,7 @@ invariant_of-self-2 c =
     let fresh = subst (λ env. is_bound env c.in_ok-name.name.items ≡ false) (sym c.prepare.ensures.same) (subst (λ name. is_bound c.args.self.now name ≡ false) named c.requires.fresh) in
     let done = inserted c.self.inside.entries.entries c.insert.new.self.entries c.prepare.new.self c.in_ok-name.name c.args.entry c.self.invariant.0 c.self.view_is
     (subst HasDistinctNames c.self.view_is c.self.invariant.1) fresh (record { named = named; sound = c.requires.sound }) c.in_ok-insert.ensures.entries in
-    (done.0.0, done.0.1, c.self.invariant.2)
+    done.0
 
 pub returns-clause-ok : goal.returns-clause-ok
 returns-clause-ok c =

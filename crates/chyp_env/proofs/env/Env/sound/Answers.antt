@@ -2,4 +2,4 @@ use Rattle.chyp_env.proofs.Envs.{kept_sound}
 use Rattle.chyp_env.proofs.env.Env.sound.Goals as goal
 
 pub returns : goal.returns
-returns c = kept_sound c.self.inside.entries.entries c.args.self.now (c.self.invariant.0, c.self.invariant.1) c.self.view_is
+returns c = kept_sound c.self.inside.entries.entries c.args.self.now c.self.invariant c.self.view_is
