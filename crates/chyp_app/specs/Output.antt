@@ -57,7 +57,7 @@ pub data IsExplained (text : List ℕ) (output : Output) : Type 0 where
   says_nothing : output.text ≡ [] → IsExplained text output
   says : {tokens : List Token} {chunks : List Chunk} {verdicts : List Verdict} → AreTokens text tokens → AreChunks tokens chunks
       → AreVerdicts text tokens chunks verdicts → output.text ≡ report_of text tokens chunks verdicts
-      → AreExplained text (statements_of tokens chunks) verdicts → IsExplained text output
+      → AreExplained (statements_of text tokens chunks) verdicts → IsExplained text output
 
 -- the output is to be given, and what it says is so
 pub record IsTrueOutput (words : List (List ℕ)) (bytes : List ℕ) (texts : Texts) (output : Output) : Type 0 where

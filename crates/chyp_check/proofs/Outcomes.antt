@@ -8,12 +8,9 @@ use Rattle.chyp_base.specs.declared.verdict.Verdict.TheVariants.{Accepted, Prove
 use Rattle.chyp_lex.specs.declared.token.TokenKind.TheVariants.{WordRewrite}
 use Rattle.chyp_syntax.specs.Sentence.{IsSentence}
 use Rattle.chyp_syntax.specs.Statement.{StatementTree, generator as a_gen, definition, rule, rewrite, inclusion, showing}
-use Rattle.chyp_syntax.proofs.Spans.{spans_few}
 use Rattle.chyp_term.specs.Measure.{size_of}
 use Rattle.chyp_term.specs.Step.{Reason, reason_of, reasons_of}
 use Rattle.chyp_term.specs.Morphism.{Morphism, generator, permutation, then, beside}
-use Rattle.chyp_env.specs.declared.chunk_view.ChunkView.{ChunkView}
-use Rattle.chyp_env.specs.ChunkView.{IsLent}
 use Rattle.chyp_env.specs.Site.{Site}
 use Rattle.chyp_names.specs.declared.body.Body.{Body}
 use Rattle.chyp_names.specs.Binding.{IsOutcome}
@@ -23,10 +20,6 @@ use Rattle.chyp_verdicts.specs.Steps.{IsVerdictOnSteps}
 use Rattle.chyp_verdicts.proofs.Follows.{goals-few}
 use Rattle.chyp_verdicts.proofs.OneBinding.{keyword_of_tree, rewrite-begins, sentence-is_rewrite}
 use Rattle.chyp_verdicts.proofs.SomeBinding.{IsBad, refused-bad, steps-bad}
-
--- a lent statement has fewer tokens than a text may have bytes
-pub tokens_few : (chunk : ChunkView) → IsLent chunk → length chunk.tokens.now < 4294967296
-tokens_few chunk lent = let few = spans_few 0 (length chunk.first.now) chunk.tokens.now lent.spans in let short = lent.short in omega arith
 
 some_size : (t : Morphism) → 1 ≤ size_of t
 some_size (generator n a b) = omega arith
@@ -44,11 +37,11 @@ terms_few (t ∷ ts) =
     omega arith
 
 -- the verdict of a sentence that nothing refuses
-pub judged_sentence : (s : Site) (tree : StatementTree) (body : Body) (v : Verdict) → IsSentence s.tokens tree → Passes s tree → IsBody s tree body
+pub judged_sentence : (s : Site) (tree : StatementTree) (body : Body) (v : Verdict) → IsSentence s.scope.words tree → Passes s tree → IsBody s tree body
     → IsVerdictOf body.terms (reasons_of body.steps) body.hole tree v → IsJudged s v
 judged_sentence s tree body v t p b = go tree t p b.terms b.steps b.hole
   where
-    go : (tree : StatementTree) → IsSentence s.tokens tree → Passes s tree → body.terms ≡ terms_of s tree → reasons_of body.steps ≡ steps_at s tree → body.hole ≡ has_hole tree
+    go : (tree : StatementTree) → IsSentence s.scope.words tree → Passes s tree → body.terms ≡ terms_of s tree → reasons_of body.steps ≡ steps_at s.scope tree → body.hole ≡ has_hole tree
         → IsVerdictOf body.terms (reasons_of body.steps) body.hole tree v → IsJudged s v
     go (a_gen name dom cod) t p e f g h = subst (IsJudged s) (sym h) (accepted t p refl)
     go (definition name tree) t p e f g h = subst (IsJudged s) (sym h) (accepted t p refl)
@@ -57,7 +50,7 @@ judged_sentence s tree body v t p b = go tree t p b.terms b.steps b.hole
     go (showing name) t p e f g h = subst (IsJudged s) (sym h) (accepted t p refl)
     go (rewrite name first steps) t p e f g h =
         let tree = rewrite name first steps in
-        by_steps t p (subst (λ terms. IsVerdictOnSteps terms (steps_at s tree) (has_hole tree) v) e
+        by_steps t p (subst (λ terms. IsVerdictOnSteps terms (steps_at s.scope tree) (has_hole tree) v) e
         (subst (λ reasons. IsVerdictOnSteps body.terms reasons (has_hole tree) v) f
         (subst (λ hole. IsVerdictOnSteps body.terms (reasons_of body.steps) hole v) g h)))
 
@@ -76,14 +69,14 @@ good_keyword terms reasons hole (rewrite name first steps) v h = (λ e k. never 
     never (inr bad) e = bad.1 e
 
 -- a sentence that nothing refuses has an outcome with its body
-pub passing_outcome : (s : Site) (tree : StatementTree) (body : Body) (v : Verdict) → IsSentence s.tokens tree → Passes s tree → IsBody s tree body
+pub passing_outcome : (s : Site) (tree : StatementTree) (body : Body) (v : Verdict) → IsSentence s.scope.words tree → Passes s tree → IsBody s tree body
     → IsVerdictOf body.terms (reasons_of body.steps) body.hole tree v → IsOutcome s (Some body) v
 passing_outcome s tree body v t p b h =
     let good = good_keyword body.terms (reasons_of body.steps) body.hole tree v h in
     record {
       elaborates = record { tree = tree; is_sentence = t; passes = p; is_body = b };
-      accepted = λ e. (refl, λ r. good.0 e (sentence-is_rewrite s.tokens tree t r));
-      proved = λ e. (refl, rewrite-begins s.tokens tree t (good.1 e));
+      accepted = λ e. (refl, λ r. good.0 e (sentence-is_rewrite s.scope.words tree t r));
+      proved = λ e. (refl, rewrite-begins s.scope.words tree t (good.1 e));
     }
 
 -- a statement that isn't good has an outcome without one
@@ -110,7 +103,7 @@ rewrite_steps s tree body b r =
     let steps = length-map body.steps reason_of in
     omega arith
   where
-    go : (tree : StatementTree) → is_rewrite tree ≡ true → length (terms_of s tree) ≤ length (steps_at s tree) + 1
+    go : (tree : StatementTree) → is_rewrite tree ≡ true → length (terms_of s tree) ≤ length (steps_at s.scope tree) + 1
     go (a_gen name dom cod) h = absurd (false≢true h)
     go (definition name tree) h = absurd (false≢true h)
     go (rule name left equals right) h = absurd (false≢true h)

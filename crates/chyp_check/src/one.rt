@@ -1,27 +1,32 @@
 // The verdict of one statement.
-ghost use Rattle.std.specs.Prelude.{◌≡◌, ◌≤◌, ◌<◌, ◌+◌, ◌^◌, IfOk, IfSome, OnOk, OnErr, length, true};
+ghost use Rattle.std.specs.Prelude.{◌≡◌, ◌≤◌, ◌<◌, ◌+◌, ◌^◌, Err, IfOk, IfSome, OnOk, OnErr, length, true};
+ghost use Rattle.chyp_base.specs.declared.verdict.Verdict.{Verdict};
 ghost use Rattle.chyp_syntax.specs.Sentence.{IsSentence};
 ghost use Rattle.chyp_syntax.specs.Statement.{statement_of};
-ghost use Rattle.chyp_env.specs.ChunkView.{IsLent, site_of};
+ghost use Rattle.chyp_env.specs.ImportState.{IsNotThere};
 ghost use Rattle.chyp_names.specs.Binding.{IsOutcome};
+ghost use Rattle.chyp_names.specs.Elaboration.{IsBody, IsRefused, Passes};
 ghost use Rattle.chyp_names.specs.Typing.{AreTypedAlike};
 ghost use Rattle.chyp_term.specs.Step.{reasons_of};
 ghost use Rattle.chyp_verdicts.specs.Judged.{IsJudged, IsVerdictOf, is_rewrite};
 ghost use Rattle.chyp_verdicts.specs.Steps.{AreUsable};
+ghost use Rattle.chyp_check.specs.Inputs.{site_at};
 
 use crate::Inputs;
 use crate::steps::verdict_on_steps;
 use chyp_base::{NoMemory, Steps, Verdict};
-use chyp_names::{Body, ElabError, elaborate};
-use chyp_syntax::{Ast, ParseError, parse};
+use chyp_names::{Body, ElabError, Scope, elaborate};
+use chyp_syntax::{Ast, ParseError};
 use std::alloc::Global;
 use std::sync::ledger::Ledger;
 
 /// A verdict, with what the statement means where nothing refuses it.
 #[derive(Drop)]
-pub(crate) struct Outcome {
-    pub(crate) verdict: Verdict,
-    pub(crate) body: Option<Body>,
+pub struct Outcome {
+    /// The verdict.
+    pub verdict: Verdict,
+    /// What the statement means, None where it is no sentence or something refuses it.
+    pub body: Option<Body>,
 }
 
 // The verdict of a statement that nothing refuses.
@@ -38,16 +43,29 @@ fn verdict_of(alloc: Global, ast: &Ast, body: &Body) -> Result<Verdict, NoMemory
     }
 }
 
+// What a sentence means where it stands.
+fn elaborated(alloc: Global, inputs: &Inputs<'_>, ast: &Ast) -> Result<Body, ElabError>
+    requires import { IsNotThere (site_at inputs.now).imported }
+    requires sentence { IsSentence inputs.now.chunk.now (statement_of ast.now) }
+    ensures passes { OnOk result (Passes (site_at inputs.now) (statement_of ast.now)) }
+    ensures body { IfOk result (IsBody (site_at inputs.now) (statement_of ast.now)) }
+    ensures typed { IfOk result (λ body. AreTypedAlike body.terms) }
+    ensures refused { (verdict : Verdict) → result ≡ Err (ElabError.Refused verdict) →
+        IsRefused (site_at inputs.now) (statement_of ast.now) verdict }
+{
+    let scope = Scope::new(inputs.chunk, inputs.env);
+    elaborate(alloc, inputs.module, ast, &scope, inputs.import)
+}
+
 // The verdict of a sentence, with its body.
 fn judge_sentence(alloc: Global, inputs: &Inputs<'_>, ast: &Ast) -> Result<Outcome, NoMemory>
-    requires lent { IsLent inputs.now.chunk }
-    requires sentence { IsSentence inputs.now.chunk.tokens.now (statement_of ast.now) }
-    ensures judged { IfOk result (λ outcome. IsJudged (site_of inputs.now.«module».now inputs.now.chunk inputs.now.env.now) outcome.verdict) }
-    ensures outcome { IfOk result (λ outcome. IsOutcome
-        (site_of inputs.now.«module».now inputs.now.chunk inputs.now.env.now) outcome.body outcome.verdict) }
+    requires import { IsNotThere (site_at inputs.now).imported }
+    requires sentence { IsSentence inputs.now.chunk.now (statement_of ast.now) }
+    ensures judged { IfOk result (λ outcome. IsJudged (site_at inputs.now) outcome.verdict) }
+    ensures outcome { IfOk result (λ outcome. IsOutcome (site_at inputs.now) outcome.body outcome.verdict) }
     ensures typed { IfOk result (λ outcome. IfSome outcome.body (λ body. AreTypedAlike body.terms)) }
 {
-    let body = match elaborate(alloc, inputs.module, ast, &inputs.chunk, inputs.env) {
+    let body = match elaborated(alloc, inputs, ast) {
         Ok(body) => body,
         Err(ElabError::Refused(verdict)) => {
             let body = None;
@@ -63,13 +81,12 @@ fn judge_sentence(alloc: Global, inputs: &Inputs<'_>, ast: &Ast) -> Result<Outco
 
 /// The verdict of a statement, with its body.
 pub(crate) fn judge_statement(alloc: Global, inputs: &Inputs<'_>) -> Result<Outcome, NoMemory>
-    requires { IsLent inputs.now.chunk }
-    ensures judged { IfOk result (λ outcome. IsJudged (site_of inputs.now.«module».now inputs.now.chunk inputs.now.env.now) outcome.verdict) }
-    ensures outcome { IfOk result (λ outcome. IsOutcome
-        (site_of inputs.now.«module».now inputs.now.chunk inputs.now.env.now) outcome.body outcome.verdict) }
+    requires { IsNotThere (site_at inputs.now).imported }
+    ensures judged { IfOk result (λ outcome. IsJudged (site_at inputs.now) outcome.verdict) }
+    ensures outcome { IfOk result (λ outcome. IsOutcome (site_at inputs.now) outcome.body outcome.verdict) }
     ensures typed { IfOk result (λ outcome. IfSome outcome.body (λ body. AreTypedAlike body.terms)) }
 {
-    match parse(alloc, inputs.chunk.tokens) {
+    match inputs.chunk.parse(alloc) {
         Ok(ast) => judge_sentence(alloc, inputs, &ast),
         Err(ParseError::Syntax { token }) => Ok(Outcome {
             verdict: Verdict::Syntax { token },
@@ -77,6 +94,29 @@ pub(crate) fn judge_statement(alloc: Global, inputs: &Inputs<'_>) -> Result<Outc
         }),
         Err(ParseError::NoMemory) => Err(NoMemory),
     }
+}
+
+/// The verdict of a statement where it stands with its body, at one step: what a caller needs who binds
+/// its name, and wants it elaborated once.
+///
+/// # Errors
+///
+/// `NoMemory` may come at any point; then at most one step was counted.
+pub fn check_statement<G: Ledger>(
+    alloc: Global,
+    inputs: &Inputs<'_>,
+    steps: &mut Steps<G>,
+) -> Result<Outcome, NoMemory>
+    requires { IsNotThere (site_at inputs.now).imported }
+    ensures judged { IfOk result (λ outcome. IsJudged (site_at inputs.now) outcome.verdict) }
+    ensures outcome { IfOk result (λ outcome. IsOutcome (site_at inputs.now) outcome.body outcome.verdict) }
+    ensures typed { IfOk result (λ outcome. IfSome outcome.body (λ body. AreTypedAlike body.terms)) }
+    ensures one { OnOk result (steps.new ≡ steps.old + 1) }
+    ensures rises { steps.old ≤ steps.new }
+    ensures no_more { OnErr result (steps.new ≤ steps.old + 1) }
+{
+    steps.tick();
+    judge_statement(alloc, inputs)
 }
 
 /// The verdict of a statement where it stands, at one step.
@@ -89,13 +129,12 @@ pub fn check_one<G: Ledger>(
     inputs: &Inputs<'_>,
     steps: &mut Steps<G>,
 ) -> Result<Verdict, NoMemory>
-    requires { IsLent inputs.now.chunk }
-    ensures verdict { IfOk result (λ verdict. IsJudged (site_of inputs.now.«module».now inputs.now.chunk inputs.now.env.now) verdict) }
+    requires { IsNotThere (site_at inputs.now).imported }
+    ensures verdict { IfOk result (λ verdict. IsJudged (site_at inputs.now) verdict) }
     ensures one { OnOk result (steps.new ≡ steps.old + 1) }
     ensures rises { steps.old ≤ steps.new }
     ensures no_more { OnErr result (steps.new ≤ steps.old + 1) }
 {
-    steps.tick();
-    let outcome = judge_statement(alloc, inputs)?;
+    let outcome = check_statement(alloc, inputs, steps)?;
     Ok(outcome.verdict)
 }

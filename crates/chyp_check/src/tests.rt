@@ -1,11 +1,13 @@
 // Each public call once.
 ghost use Rattle.std.specs.Prelude.{◌≡◌, ◌≤◌, ◌<◌, length};
+ghost use Rattle.chyp_lex.specs.Names.{NamesAreText};
+ghost use Rattle.chyp_lex.specs.Tokens.{AreSpans};
 
 use crate::each::judge_and_bind;
 use crate::*;
 use chyp_base::{Name, Steps, Verdict};
-use chyp_lex::{each_name_is_text, lex};
-use chyp_names::{ChunkView, Env};
+use chyp_lex::{Token, each_name_is_text, lex};
+use chyp_names::{ChunkView, Env, ImportState};
 use chyp_syntax::chunks;
 use std::alloc::Global;
 use std::marker::Brand;
@@ -39,6 +41,15 @@ fn the_statements_of_a_text_have_verdicts(rt: HostRuntime) -> Result<(), Fail> {
     Ok(())
 }
 
+// The statement that a text is.
+fn lent<'a>(text: &'a [u8], tokens: &'a [Token]) -> ChunkView<'a>
+    requires short { length text.now ≤ 1000 }
+    requires spans { AreSpans (length text.now) tokens.now }
+    requires names { NamesAreText text.now tokens.now }
+{
+    ChunkView::new(tokens, text, &[])
+}
+
 /// Binds the name of the statement that this text is.
 fn bind_text(alloc: Global, env: &mut Env, text: &[u8]) -> Result<(), Fail>
     requires { length text.now ≤ 1000 }
@@ -46,11 +57,7 @@ fn bind_text(alloc: Global, env: &mut Env, text: &[u8]) -> Result<(), Fail>
     each_name_is_text();
     let tokens = lex(alloc, text, b"")?;
     let module = Name::new(alloc, "")?;
-    let chunk = ChunkView {
-        tokens: &tokens,
-        first: text,
-        second: &[],
-    };
+    let chunk = lent(text, &tokens);
     let _ = judge_and_bind(alloc, &module, &chunk, 0, env)?;
     Ok(())
 }
@@ -70,15 +77,12 @@ fn verdict_of<G: Ledger>(
     let mut steps = Steps::<G>::new(blank);
     let tokens = lex(alloc, text, b"")?;
     let module = Name::new(alloc, "")?;
-    let chunk = ChunkView {
-        tokens: &tokens,
-        first: text,
-        second: &[],
-    };
+    let chunk = lent(text, &tokens);
     let inputs = Inputs {
         module: &module,
-        chunk,
+        chunk: &chunk,
         env,
+        import: &ImportState::NotImport,
     };
     Ok(check_one(alloc, &inputs, &mut steps)?)
 }

@@ -2,6 +2,7 @@ pub mod Envs
 pub mod Failing
 pub mod Halves
 pub mod Holding
+pub mod Imports
 pub mod Lent
 pub mod Measures
 pub mod Nodes

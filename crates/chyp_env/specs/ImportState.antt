@@ -6,7 +6,7 @@ use Rattle.chyp_env.specs.Scope.{Scope}
 use Rattle.chyp_env.specs.Site.{Imported, nothing, absent, on_cycle, there, Site}
 
 -- what is imported
-abbrev pub imported_of : ImportState → Imported
+unfoldable pub imported_of : ImportState → Imported
 imported_of NotImport = nothing
 imported_of Absent = absent
 imported_of OnCycle = on_cycle

@@ -4,8 +4,8 @@ use Rattle.std.proofs.lemmas.Bool.{cases_lt, false≢true}
 use Rattle.std.specs.Prelude.{Contains}
 use Rattle.std.specs.Str.{bytes_eq}
 use Rattle.chyp_lex.specs.Tokens.{text_limit}
-use Rattle.chyp_lex.specs.declared.token.Token.{Token}
 use Rattle.chyp_verdicts.proofs.OneVerdict.{some-once, none-some}
+use Rattle.chyp_syntax.specs.Words.{Word}
 use Rattle.chyp_modules.specs.Library.{Library, IsModule, with_main}
 use Rattle.chyp_modules.specs.Import.{Imports, ImportsNothing, LeadsTo, Reaches, at_once, by_way_of}
 use Rattle.chyp_modules.specs.Laws.{HasOneListOfVerdicts}
@@ -58,7 +58,7 @@ no-more (x ∷ xs) ys d among =
 
 record Picked (library : Library) (name : List ℕ) (names : Names) (n : ℕ) : Type 0 where
   text : List ℕ
-  statements : List (List Token)
+  statements : List (List Word)
   is_module : IsModule library name text statements
   m : ℕ
   rest : HaveStatements library (without name names) m
@@ -184,35 +184,35 @@ abbrev AreClosed : Library → Names → Names → Type 0
 AreClosed library names sources = (from other whole : List ℕ) → Contains sources from → LeadsTo library from other → library other ≡ Some whole → Contains names other
 
 -- a module that a statement among these imports
-record NewImport (library : Library) (names : Names) (text : List ℕ) (ss : List (List Token)) : Type 0 where
+record NewImport (library : Library) (names : Names) (ss : List (List Word)) : Type 0 where
   number : ℕ
-  tokens : List Token
+  tokens : List Word
   here : slice_get ss number ≡ Some tokens
   other : List ℕ
-  imports : Imports text tokens other
+  imports : Imports tokens other
   whole : List ℕ
   there : library other ≡ Some whole
   new : ¬ Contains names other
 
-abbrev NoNewImport : Library → Names → List ℕ → List (List Token) → Type 0
-NoNewImport library names text ss = (number : ℕ) (tokens : List Token) (other whole : List ℕ) → slice_get ss number ≡ Some tokens → Imports text tokens other
+abbrev NoNewImport : Library → Names → List (List Word) → Type 0
+NoNewImport library names ss = (number : ℕ) (tokens : List Word) (other whole : List ℕ) → slice_get ss number ≡ Some tokens → Imports tokens other
     → library other ≡ Some whole → Contains names other
 
-new-import : Known → (library : Library) (names : Names) (text : List ℕ) (ss : List (List Token)) → NewImport library names text ss ⊎ NoNewImport library names text ss
-new-import known library names text [] = inr (λ k tokens other whole e i t. absurd cc)
-new-import known library names text (s ∷ ss) = go (new-import known library names text ss) (import-or-not known text s)
+new-import : Known → (library : Library) (names : Names) (text : List ℕ) (ss : List (List Word)) → NewImport library names ss ⊎ NoNewImport library names ss
+new-import known library names [] = inr (λ k tokens other whole e i t. absurd cc)
+new-import known library names (s ∷ ss) = go (new-import known library names ss) (import-or-not known s)
   where
-    behind : NoNewImport library names text ss → ((other whole : List ℕ) → Imports text s other → library other ≡ Some whole → Contains names other) → NoNewImport library names text (s ∷ ss)
-    behind none here zero tokens other whole e i t = let same : s ≡ tokens = cc in here other whole (subst (λ x. Imports text x other) (sym same) i) t
+    behind : NoNewImport library names ss → ((other whole : List ℕ) → Imports s other → library other ≡ Some whole → Contains names other) → NoNewImport library names (s ∷ ss)
+    behind none here zero tokens other whole e i t = let same : s ≡ tokens = cc in here other whole (subst (λ x. Imports x other) (sym same) i) t
     behind none here (suc k) tokens other whole e i t = none k tokens other whole e i t
 
-    named : NoNewImport library names text ss → (i : SomeImport text s) → (o : Option (List ℕ)) → library i.name ≡ o → Contains names i.name ⊎ ¬ Contains names i.name
-        → NewImport library names text (s ∷ ss) ⊎ NoNewImport library names text (s ∷ ss)
-    named none i None e c = inr (behind none (λ other whole j t. absurd (none-some (library other) whole (ap library (sym (imports-unique known text s i.name other i.imports j)) ∙ e) t)))
+    named : NoNewImport library names ss → (i : SomeImport s) → (o : Option (List ℕ)) → library i.name ≡ o → Contains names i.name ⊎ ¬ Contains names i.name
+        → NewImport library names (s ∷ ss) ⊎ NoNewImport library names (s ∷ ss)
+    named none i None e c = inr (behind none (λ other whole j t. absurd (none-some (library other) whole (ap library (sym (imports-unique known s i.name other i.imports j)) ∙ e) t)))
     named none i (Some whole) e (inr c) = inl (record { number = 0; tokens = s; here = refl; other = i.name; imports = i.imports; whole = whole; there = e; new = c })
-    named none i (Some whole) e (inl c) = inr (behind none (λ other whole j t. subst (Contains names) (imports-unique known text s i.name other i.imports j) c))
+    named none i (Some whole) e (inl c) = inr (behind none (λ other whole j t. subst (Contains names) (imports-unique known s i.name other i.imports j) c))
 
-    go : NewImport library names text ss ⊎ NoNewImport library names text ss → SomeImport text s ⊎ ImportsNothing s → NewImport library names text (s ∷ ss) ⊎ NoNewImport library names text (s ∷ ss)
+    go : NewImport library names ss ⊎ NoNewImport library names ss → SomeImport s ⊎ ImportsNothing s → NewImport library names (s ∷ ss) ⊎ NoNewImport library names (s ∷ ss)
     go (inl n) i = inl (record { number = suc n.number; tokens = n.tokens; here = n.here; other = n.other; imports = n.imports; whole = n.whole; there = n.there; new = n.new })
     go (inr none) (inl i) = named none i (library i.name) refl (contains-or-not names i.name)
     go (inr none) (inr i) = inr (behind none (λ other whole j t. absurd (i j.word j.as_word j.is_sentence)))
@@ -228,22 +228,22 @@ new-one known library names (x ∷ xs) = go (new-one known library names xs) (li
         pick' (inl s) = here other whole (subst (λ q. LeadsTo library q other) (sym s) l) t
         pick' (inr i) = rest from other whole i l t
 
-    of_text : AreClosed library names xs → (text : List ℕ) → library x ≡ Some text → (ss : List (List Token)) → IsModule library x text ss → NewImport library names text ss
-        ⊎ NoNewImport library names text ss
+    of_text : AreClosed library names xs → (text : List ℕ) → library x ≡ Some text → (ss : List (List Word)) → IsModule library x text ss → NewImport library names ss
+        ⊎ NoNewImport library names ss
         → NewOne library names (x ∷ xs) ⊎ AreClosed library names (x ∷ xs)
     of_text rest text e ss m (inl n) =
         inl (record {
           from = x;
           is_source = (0, omega arith, refl);
           other = n.other;
-          leads = record { text = text; statements = ss; is_module = m; number = n.number; tokens = n.tokens; here = n.here; imports = n.imports };
+          leads = record { text = text; statements = ss; is_module = m; number = n.number; words = n.tokens; here = n.here; imports = n.imports };
           whole = n.whole;
           there = n.there;
           new = n.new;
         })
     of_text rest text e ss m (inr none) = inr (closed rest (λ other whole l t.
         let same = module-unique known library x text l.text ss l.statements m l.is_module in
-        none l.number l.tokens other whole (ap (λ q. slice_get q l.number) same.1 ∙ l.here) (subst (λ q. Imports q l.tokens other) (sym same.0) l.imports) t))
+        none l.number l.words other whole (ap (λ q. slice_get q l.number) same.1 ∙ l.here) l.imports t))
 
     go : NewOne library names xs ⊎ AreClosed library names xs → (o : Option (List ℕ)) → library x ≡ o → NewOne library names (x ∷ xs) ⊎ AreClosed library names (x ∷ xs)
     go (inl n) o e = inl (record { from = n.from; is_source = Contains-cons x xs n.from n.is_source; other = n.other; leads = n.leads; whole = n.whole; there = n.there; new = n.new })
@@ -251,7 +251,7 @@ new-one known library names (x ∷ xs) = go (new-one known library names xs) (li
     go (inr rest) (Some text) e =
         let ss = statements-there known text in
         let m : IsModule library x text ss.0 = record { there = e; are = ss.1 } in
-        of_text rest text e ss.0 m (new-import known library names text ss.0)
+        of_text rest text e ss.0 m (new-import known library names ss.0)
 
 -- what is closed has all that is reached
 closed-reached : (library : Library) (names : Names) → AreClosed library names ([] ∷ names) → (a b : List ℕ) → Reaches library a b → Contains ([] ∷ names) a → (whole : List ℕ) → library b ≡ Some whole

@@ -1,7 +1,7 @@
 -- Proved rewrites have derivations from the rules that are permitted to them.
 use Rattle.std.proofs.Common.{◌≡◌, ℕ, List, length, sym, subst}
 use Rattle.std.proofs.lemmas.List.Elements.{All-nil}
-use Rattle.chyp_lex.specs.declared.token.Token.{Token}
+use Rattle.chyp_syntax.specs.Words.{Word}
 use Rattle.chyp_env.specs.Environment.{Binding}
 use Rattle.chyp_env.specs.Site.{Imported, Site}
 use Rattle.chyp_verdicts.proofs.Derived.{AreImportsDerived, AreLawsDerived, binds-derived, rewrite-derived}
@@ -24,14 +24,14 @@ mutual
       binds-derived (standing library) known k s here (stands-sound library known name k s st).0 laws.0 laws.1 v env j x
 
   pub stands-derived : (library : Library) → Known → (name : List ℕ) (number : ℕ) (s : Site) → Stands library name number s
-      → AreLawsDerived (standing library) s.env × AreImportsDerived (standing library) s.imported
-  stands-derived library known name number s (stands h m e k f) = (makes-derived library known name number s.env k, finds-derived library known s.text s.tokens s.imported f)
+      → AreLawsDerived (standing library) s.scope.env × AreImportsDerived (standing library) s.imported
+  stands-derived library known name number s (stands h m e k f) = (makes-derived library known name number s.scope.env k, finds-derived library known s.scope.words s.imported f)
 
-  finds-derived : (library : Library) → Known → (text : List ℕ) (tokens : List Token) (i : Imported) → Finds library text tokens i → AreImportsDerived (standing library) i
-  finds-derived library known text tokens i (no_import n) = tt
-  finds-derived library known text tokens i (of_none m e) = tt
-  finds-derived library known text tokens i (of_circle m e r) = tt
-  finds-derived library known text tokens i (found {name} {statements} {env} m f r k) = makes-derived library known name (length statements) env k
+  finds-derived : (library : Library) → Known → (tokens : List Word) (i : Imported) → Finds library tokens i → AreImportsDerived (standing library) i
+  finds-derived library known tokens i (no_import n) = tt
+  finds-derived library known tokens i (of_none m e) = tt
+  finds-derived library known tokens i (of_circle m e r) = tt
+  finds-derived library known tokens i (found {name} {statements} {env} m f r k) = makes-derived library known name (length statements) env k
 
 -- a rewrite that is proved is derived from the rules that are permitted to it
 pub proved-derived : Known → ProvedRewritesAreDerived

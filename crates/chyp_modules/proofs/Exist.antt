@@ -1,16 +1,12 @@
 -- Each module that reaches finitely many has an environment, and each of its statements a verdict.
 use Rattle.std.proofs.Common.{◌≡◌, ℕ, zero, suc, ◌<◌, ◌≤◌, Bool, true, false, List, [], ◌∷◌, ◌++◌, length, Option, Some, None, slice_get, ◌⊎◌, inl, inr, refl, sym, subst, arith}
 use Rattle.chyp_base.specs.declared.verdict.Verdict.{Verdict}
-use Rattle.chyp_base.specs.declared.verdict.Verdict.TheVariants.{Accepted}
-use Rattle.chyp_lex.specs.declared.token.Token.{Token}
-use Rattle.chyp_syntax.specs.Heading.{declared_name}
 use Rattle.chyp_syntax.specs.Sentence.{IsSentence}
 use Rattle.chyp_syntax.specs.Statement.{inclusion}
-use Rattle.chyp_env.specs.Environment.{Binding, is_bound}
+use Rattle.chyp_syntax.specs.Words.{Word}
+use Rattle.chyp_env.specs.Environment.{Binding}
 use Rattle.chyp_env.specs.Site.{Imported, nothing, absent, on_cycle, there, Site}
 use Rattle.chyp_env.specs.Sound.{IsSound}
-use Rattle.chyp_names.specs.Binding as names
-use Rattle.chyp_names.specs.Binding.{Binds, TakesIn}
 use Rattle.chyp_verdicts.proofs.SomeVerdict.{some-verdict}
 use Rattle.chyp_modules.specs.Library.{Library, IsModule}
 use Rattle.chyp_modules.specs.Import.{ImportsNothing, LeadsTo, Reaches, at_once}
@@ -18,66 +14,53 @@ use Rattle.chyp_verdicts.specs.Judged.{IsJudged}
 use Rattle.chyp_modules.specs.Modules.{Makes, at_start, one_more, Stands, stands, Finds, no_import, of_none, of_circle, of_module as found}
 use Rattle.chyp_modules.specs.Laws.{ReachesOnly}
 use Rattle.chyp_verdicts.proofs.Known.{Known}
-use Rattle.chyp_verdicts.proofs.SomeBinding.{some-sense}
+use Rattle.chyp_verdicts.proofs.Sites.{some-binds}
+use Rattle.chyp_verdicts.specs.Sites.{IsImportState, no_import as alone, an_import}
 use Rattle.chyp_verdicts.proofs.Texts.{get-there}
 use Rattle.chyp_modules.proofs.Reaching.{SomeImport, import-or-not, reaches-only-next, reaches-or-not, reaches-without, statements-there, without, without-shorter}
 use Rattle.chyp_modules.proofs.Senses.{makes-sound}
 
--- what names stand for behind a statement
+-- an environment for which this holds
 pub record SomeEnv (P : List Binding → Type 0) : Type 0 where
   pub env : List Binding
   pub is : P env
 
--- an import takes in what is there, or takes in nothing
-takes-or-not : (library : Library) (s : Site) (v : Verdict) → Finds library s.text s.tokens s.imported → declared_name s.text s.tokens ≡ None → (n : ℕ) → SomeEnv (Binds s n v)
-takes-or-not library s v f none n = go s.text s.tokens s.imported refl refl refl f v refl
+-- what is found is imported by an import
+import-state : (library : Library) (s : Site) → Finds library s.scope.words s.imported → IsImportState s
+import-state library s f = go s.scope.words s.imported refl refl f
   where
-    go : (text : List ℕ) (tokens : List Token) (i : Imported) → text ≡ s.text → tokens ≡ s.tokens → i ≡ s.imported → Finds library text tokens i → (w : Verdict) → w ≡ v → SomeEnv (Binds s n v)
-    go text tokens i a b e (no_import m) w x = record { env = s.env; is = names.nothing none (λ h. subst (λ y. TakesIn y v) (sym e) h) }
-    go text tokens i a b e (of_none m y) w x = record { env = s.env; is = names.nothing none (λ h. subst (λ y. TakesIn y v) (sym e) h) }
-    go text tokens i a b e (of_circle m y r) w x = record { env = s.env; is = names.nothing none (λ h. subst (λ y. TakesIn y v) (sym e) h) }
-    go text tokens i a b e (found {env} m y r k) Accepted x = record { env = _; is = names.imports (sym x) (subst (λ t. IsSentence t (inclusion m.word m.as_word)) b m.is_sentence) (sym e) }
-    go text tokens i a b e (found {env} m y r k) w x = record { env = s.env; is = names.nothing none (λ h. subst (TakesIn (there env)) (sym x) (subst (λ y. TakesIn y v) (sym e) h)) }
-
-some-binds : (library : Library) → Known → (s : Site) (n : ℕ) (v : Verdict) → IsSound s.env → Finds library s.text s.tokens s.imported → IsJudged s v → SomeEnv (Binds s n v)
-some-binds library known s n v sound f j = go (declared_name s.text s.tokens) refl
-  where
-    go : (o : Option (List ℕ)) → declared_name s.text s.tokens ≡ o → SomeEnv (Binds s n v)
-    go None e = takes-or-not library s v f e n
-    go (Some name) e = bound (is_bound s.env name) refl
-      where
-        bound : (b : Bool) → is_bound s.env name ≡ b → SomeEnv (Binds s n v)
-        bound true i = record { env = s.env; is = names.again e i }
-        bound false i =
-            let x = some-sense known.typed s sound v name e j in
-            record { env = s.env ++ record { name = name; origin = (s.home, n); sense = x.sense } ∷ []; is = names.anew e i x.stands }
+    go : (words : List Word) (i : Imported) → words ≡ s.scope.words → i ≡ s.imported → Finds library words i → IsImportState s
+    go words i w e (no_import m) = alone (sym e)
+    go words i w e (of_none m y) = an_import (subst (λ t. IsSentence t (inclusion m.word m.as_word)) w m.is_sentence)
+    go words i w e (of_circle m y r) = an_import (subst (λ t. IsSentence t (inclusion m.word m.as_word)) w m.is_sentence)
+    go words i w e (found m y r k) = an_import (subst (λ t. IsSentence t (inclusion m.word m.as_word)) w m.is_sentence)
 
 -- ---- modules
 
 -- what a module leads to, where it doesn't reach itself, makes an environment
 abbrev HasBelow : Library → List ℕ → Type 0
-HasBelow library name = (other text : List ℕ) (ss : List (List Token)) → LeadsTo library name other → IsModule library other text ss → ¬ Reaches library other other
+HasBelow library name = (other text : List ℕ) (ss : List (List Word)) → LeadsTo library name other → IsModule library other text ss → ¬ Reaches library other other
     → SomeEnv (Makes library other (length ss))
 
 abbrev IsDecidedBelow : Library → List ℕ → Type 0
 IsDecidedBelow library name = (other : List ℕ) → LeadsTo library name other → Reaches library other other ⊎ ¬ Reaches library other other
 
-record SomeFind (library : Library) (text : List ℕ) (tokens : List Token) : Type 0 where
+record SomeFind (library : Library) (tokens : List Word) : Type 0 where
   imported : Imported
-  finds : Finds library text tokens imported
+  finds : Finds library tokens imported
 
-some-find : (library : Library) → Known → (name text : List ℕ) (ss : List (List Token)) → IsModule library name text ss → HasBelow library name → IsDecidedBelow library name
-    → (k : ℕ) (tokens : List Token) → slice_get ss k ≡ Some tokens → SomeFind library text tokens
-some-find library known name text ss m below decided k tokens at = go (import-or-not known text tokens)
+some-find : (library : Library) → Known → (name text : List ℕ) (ss : List (List Word)) → IsModule library name text ss → HasBelow library name → IsDecidedBelow library name
+    → (k : ℕ) (tokens : List Word) → slice_get ss k ≡ Some tokens → SomeFind library tokens
+some-find library known name text ss m below decided k tokens at = go (import-or-not known tokens)
   where
-    go : SomeImport text tokens ⊎ ImportsNothing tokens → SomeFind library text tokens
+    go : SomeImport tokens ⊎ ImportsNothing tokens → SomeFind library tokens
     go (inr n) = record { imported = nothing; finds = no_import n }
     go (inl i) = texts (library i.name) refl
       where
         leads : LeadsTo library name i.name
-        leads = record { text = text; statements = ss; is_module = m; number = k; tokens = tokens; here = at; imports = i.imports }
+        leads = record { text = text; statements = ss; is_module = m; number = k; words = tokens; here = at; imports = i.imports }
 
-        circle : (whole : List ℕ) → library i.name ≡ Some whole → Reaches library i.name i.name ⊎ ¬ Reaches library i.name i.name → SomeFind library text tokens
+        circle : (whole : List ℕ) → library i.name ≡ Some whole → Reaches library i.name i.name ⊎ ¬ Reaches library i.name i.name → SomeFind library tokens
         circle whole e (inl r) = record { imported = on_cycle; finds = of_circle i.imports e r }
         circle whole e (inr r) =
             let rs = statements-there known whole in
@@ -85,7 +68,7 @@ some-find library known name text ss m below decided k tokens at = go (import-or
             let made = below i.name whole rs.0 leads other r in
             record { imported = there made.env; finds = found i.imports other r made.is }
 
-        texts : (o : Option (List ℕ)) → library i.name ≡ o → SomeFind library text tokens
+        texts : (o : Option (List ℕ)) → library i.name ≡ o → SomeFind library tokens
         texts None e = record { imported = absent; finds = of_none i.imports e }
         texts (Some whole) e = circle whole e (decided i.name leads)
 
@@ -94,25 +77,25 @@ record SomeSite (library : Library) (name : List ℕ) (k : ℕ) : Type 0 where
   site : Site
   stands : Stands library name k site
 
-some-site : (library : Library) → Known → (name text : List ℕ) (ss : List (List Token)) → IsModule library name text ss → HasBelow library name → IsDecidedBelow library name
+some-site : (library : Library) → Known → (name text : List ℕ) (ss : List (List Word)) → IsModule library name text ss → HasBelow library name → IsDecidedBelow library name
     → (k : ℕ) → k < length ss → SomeEnv (Makes library name k) → SomeSite library name k
 some-site library known name text ss m below decided k h before =
     let at = get-there ss k h in
     let f = some-find library known name text ss m below decided k at.0 at.1 in
-    let s : Site = record { home = name; text = text; env = before.env; tokens = at.0; imported = f.imported } in
+    let s : Site = record { scope = record { words = at.0; env = before.env }; home = name; imported = f.imported } in
     record { site = s; stands = stands refl m at.1 before.is f.finds }
 
 some-next : (library : Library) → Known → (name : List ℕ) (k : ℕ) → SomeSite library name k → SomeEnv (Makes library name (suc k))
 some-next library known name k x = go x.site x.stands
   where
     go : (s : Site) → Stands library name k s → SomeEnv (Makes library name (suc k))
-    go s (stands {statements} h m e b f) =
-        let sound = makes-sound library known name k s.env b in
+    go s (stands {text} {statements} h m e b f) =
+        let sound = makes-sound library known name k s.scope.env b in
         let v = some-verdict known s sound in
-        let next = some-binds library known s k v.verdict sound f v.gets in
-        record { env = next.env; is = one_more (stands {statements = statements} h m e b f) v.gets next.is }
+        let next = some-binds known s k v.verdict sound (import-state library s f) v.gets in
+        record { env = next.next; is = one_more (stands {text = text} {statements = statements} h m e b f) v.gets next.binds }
 
-some-front : (library : Library) → Known → (name text : List ℕ) (ss : List (List Token)) → IsModule library name text ss → HasBelow library name
+some-front : (library : Library) → Known → (name text : List ℕ) (ss : List (List Word)) → IsModule library name text ss → HasBelow library name
     → IsDecidedBelow library name
     → (k : ℕ) → k ≤ length ss → SomeEnv (Makes library name k)
 some-front library known name text ss m below decided zero h = record { env = []; is = at_start m }
@@ -120,7 +103,7 @@ some-front library known name text ss m below decided (suc k) h =
     some-next library known name k (some-site library known name text ss m below decided k (omega arith) (some-front library known name text ss m below decided k (omega arith)))
 
 -- a module that reaches only these, of which there are at most n
-pub some-module : (library : Library) → Known → (n : ℕ) (names : List (List ℕ)) → length names ≤ n → (name text : List ℕ) (ss : List (List Token))
+pub some-module : (library : Library) → Known → (n : ℕ) (names : List (List ℕ)) → length names ≤ n → (name text : List ℕ) (ss : List (List Word))
     → IsModule library name text ss
     → ReachesOnly library names name → SomeEnv (Makes library name (length ss))
 some-module library known zero names short name text ss m only =

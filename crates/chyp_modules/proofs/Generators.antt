@@ -7,18 +7,18 @@ use Rattle.std.proofs.lemmas.List.Elements.{All-append, All-cons, All-nil, All-c
 use Rattle.chyp_base.specs.declared.sort.Sort.{Sort}
 use Rattle.chyp_base.specs.declared.verdict.Verdict.{Verdict}
 use Rattle.chyp_base.specs.declared.verdict.Verdict.TheVariants.{Accepted, Clash}
-use Rattle.chyp_lex.specs.declared.token.Token.{Token}
-use Rattle.chyp_syntax.specs.Heading.{text_at}
 use Rattle.chyp_syntax.specs.Sentence.{IsSentence}
 use Rattle.chyp_syntax.specs.Statement.{rewrite, inclusion}
 use Rattle.chyp_syntax.specs.Step.{StepTree}
 use Rattle.chyp_syntax.specs.Term.{TermTree, TermTrees, named, wire, empty as no_wire, swap, chain, beside as tensor, no_terms, term}
+use Rattle.chyp_syntax.specs.Words.{Word, bytes_at}
 use Rattle.chyp_term.specs.Derivation.{empty}
 use Rattle.chyp_term.specs.Morphism.{Morphism, generator as a_generator, permutation, then, beside}
 use Rattle.chyp_env.specs.Environment.{Sense, generator, abbreviation, law, unproved, broken, Binding}
 use Rattle.chyp_env.specs.Expansion.{expansion_in, expansions_in}
 use Rattle.chyp_term.specs.Halving.{halved_by}
-use Rattle.chyp_env.specs.Site.{Imported, there, Site, binding_at, meaning_at, term_of}
+use Rattle.chyp_env.specs.Scope.{binding_at, meaning_at, term_of}
+use Rattle.chyp_env.specs.Site.{Imported, there, Site}
 use Rattle.chyp_names.specs.Binding.{Binds, nothing, again, anew, imports, StandsFor, a_declared_generator, a_term, a_rule, a_proved_rewrite, an_unproved_rewrite, a_broken_statement}
 use Rattle.chyp_names.specs.Elaboration.{expansion_at, fault_of_module, import_fault, prefix_at, terms_of}
 use Rattle.chyp_verdicts.proofs.OneVerdict.{slice_get-read}
@@ -67,12 +67,12 @@ sense-term env (law first last) h = tt
 sense-term env unproved h = tt
 sense-term env broken h = tt
 
-meaning-bound : (s : Site) → AreBound s.env → (token : ℕ) → HasBoundGenerators s.env (meaning_at s token)
-meaning-bound s bound token = go (binding_at s token) refl
+meaning-bound : (s : Site) → AreBound s.scope.env → (token : ℕ) → HasBoundGenerators s.scope.env (meaning_at s.scope token)
+meaning-bound s bound token = go (binding_at s.scope token) refl
   where
-    go : (o : Option Binding) → binding_at s token ≡ o → HasBoundGenerators s.env (option_map_or (λ (b : Binding). term_of b.sense) o empty)
+    go : (o : Option Binding) → binding_at s.scope token ≡ o → HasBoundGenerators s.scope.env (option_map_or (λ (b : Binding). term_of b.sense) o empty)
     go None e = tt
-    go (Some b) e = let has = binding-found s.env (text_at s.text s.tokens token) b e in sense-term s.env b.sense (All-contains (λ (x : Binding). HasBoundSense s.env x.sense) s.env b bound has.0)
+    go (Some b) e = let has = binding-found s.scope.env (bytes_at s.scope.words token) b e in sense-term s.scope.env b.sense (All-contains (λ (x : Binding). HasBoundSense s.scope.env x.sense) s.scope.env b bound has.0)
 
 halved-bound : (P : Morphism → Type 0) (join : Morphism → Morphism → Morphism) → P empty → ((s t : Morphism) → P s → P t → P (join s t)) → (most : ℕ) (parts : List Morphism) → All P parts
     → P (halved_by empty most join parts)
@@ -105,47 +105,47 @@ mutual
       All-cons (HasBoundGenerators env) (expansion_in meaning first) (expansions_in meaning rest) (tree-bound env meaning bound first) (trees-bound env meaning bound rest)
 
 -- each generator of an expanded term is bound
-pub expansion-bound : (s : Site) → AreBound s.env → (tree : TermTree) → HasBoundGenerators s.env (expansion_at s tree)
-expansion-bound s bound tree = tree-bound s.env (meaning_at s) (meaning-bound s bound) tree
+pub expansion-bound : (s : Site) → AreBound s.scope.env → (tree : TermTree) → HasBoundGenerators s.scope.env (expansion_at s.scope tree)
+expansion-bound s bound tree = tree-bound s.scope.env (meaning_at s.scope) (meaning-bound s bound) tree
 
-goals-bound : (s : Site) → AreBound s.env → (steps : List StepTree) → All (HasBoundGenerators s.env) (goals_at s steps)
-goals-bound s bound [] = All-nil (HasBoundGenerators s.env)
+goals-bound : (s : Site) → AreBound s.scope.env → (steps : List StepTree) → All (HasBoundGenerators s.scope.env) (goals_at s steps)
+goals-bound s bound [] = All-nil (HasBoundGenerators s.scope.env)
 goals-bound s bound (step ∷ steps) = go step.goal (goals-bound s bound steps)
   where
-    go : (g : Option TermTree) → All (HasBoundGenerators s.env) (goals_at s steps) → All (HasBoundGenerators s.env) (cons_option (option_map (expansion_at s) g) (goals_at s steps))
+    go : (g : Option TermTree) → All (HasBoundGenerators s.scope.env) (goals_at s steps) → All (HasBoundGenerators s.scope.env) (cons_option (option_map (expansion_at s.scope) g) (goals_at s steps))
     go None rest = rest
-    go (Some tree) rest = All-cons (HasBoundGenerators s.env) (expansion_at s tree) (goals_at s steps) (expansion-bound s bound tree) rest
+    go (Some tree) rest = All-cons (HasBoundGenerators s.scope.env) (expansion_at s.scope tree) (goals_at s steps) (expansion-bound s bound tree) rest
 
 -- those of a statement's terms are
-pub rewrite-bound : (s : Site) → AreBound s.env → (name : ℕ) (first : TermTree) (steps : List StepTree) → All (HasBoundGenerators s.env) (terms_of s (rewrite name first steps))
-rewrite-bound s bound name first steps = All-cons (HasBoundGenerators s.env) (expansion_at s first) (goals_at s steps) (expansion-bound s bound first) (goals-bound s bound steps)
+pub rewrite-bound : (s : Site) → AreBound s.scope.env → (name : ℕ) (first : TermTree) (steps : List StepTree) → All (HasBoundGenerators s.scope.env) (terms_of s (rewrite name first steps))
+rewrite-bound s bound name first steps = All-cons (HasBoundGenerators s.scope.env) (expansion_at s.scope first) (goals_at s steps) (expansion-bound s bound first) (goals-bound s bound steps)
 
 at-place : (P : Morphism → Type 0) (ts : List Morphism) (k : ℕ) (t : Morphism) → All P ts → slice_get ts k ≡ Some t → P t
 at-place P ts k t all e = let a = slice_get-read ts k t e in subst P a.1 (all k t a.0)
 
 -- ---- what a statement binds
 
-sense-bound : (s : Site) → AreBound s.env → (v : Verdict) (sense : Sense) → StandsFor s v sense → (name : List ℕ) (o : List ℕ × ℕ)
-    → HasBoundSense (s.env ++ record { name = name; origin = o; sense = sense } ∷ []) sense
+sense-bound : (s : Site) → AreBound s.scope.env → (v : Verdict) (sense : Sense) → StandsFor s v sense → (name : List ℕ) (o : List ℕ × ℕ)
+    → HasBoundSense (s.scope.env ++ record { name = name; origin = o; sense = sense } ∷ []) sense
 sense-bound s bound v sense (a_declared_generator {label} {a} {b} t e) name o =
     let mine : Binding = record { name = name; origin = o; sense = generator label a b } in
-    record { binding = mine; has = Contains-push s.env mine; is = refl }
+    record { binding = mine; has = Contains-push s.scope.env mine; is = refl }
 sense-bound s bound v sense (a_term {tree} {term = m} t e) name o =
     let b : Binding = record { name = name; origin = o; sense = abbreviation m } in
-    let same : expansion_at s tree ≡ m = cc in
-    term-covered s.env (s.env ++ b ∷ []) (covers-append s.env (b ∷ [])) m (subst (HasBoundGenerators s.env) same (expansion-bound s bound tree))
+    let same : expansion_at s.scope tree ≡ m = cc in
+    term-covered s.scope.env (s.scope.env ++ b ∷ []) (covers-append s.scope.env (b ∷ [])) m (subst (HasBoundGenerators s.scope.env) same (expansion-bound s bound tree))
 sense-bound s bound v sense (a_rule {left} {right} {first} {last} t e) name o =
     let b : Binding = record { name = name; origin = o; sense = law first last } in
-    let one : expansion_at s left ≡ first = cc in
-    let two : expansion_at s right ≡ last = cc in
-    let more = term-covered s.env (s.env ++ b ∷ []) (covers-append s.env (b ∷ [])) in
-    (more first (subst (HasBoundGenerators s.env) one (expansion-bound s bound left)), more last (subst (HasBoundGenerators s.env) two (expansion-bound s bound right)))
+    let one : expansion_at s.scope left ≡ first = cc in
+    let two : expansion_at s.scope right ≡ last = cc in
+    let more = term-covered s.scope.env (s.scope.env ++ b ∷ []) (covers-append s.scope.env (b ∷ [])) in
+    (more first (subst (HasBoundGenerators s.scope.env) one (expansion-bound s bound left)), more last (subst (HasBoundGenerators s.scope.env) two (expansion-bound s bound right)))
 sense-bound s bound v sense (a_proved_rewrite {name = n} {tree} {steps} {first} {last} t f l) name o =
     let b : Binding = record { name = name; origin = o; sense = law first last } in
     let all = rewrite-bound s bound n tree steps in
     let terms = terms_of s (rewrite n tree steps) in
-    let more = term-covered s.env (s.env ++ b ∷ []) (covers-append s.env (b ∷ [])) in
-    (more first (at-place (HasBoundGenerators s.env) terms 0 first all f), more last (at-place (HasBoundGenerators s.env) terms (length terms - 1) last all l))
+    let more = term-covered s.scope.env (s.scope.env ++ b ∷ []) (covers-append s.scope.env (b ∷ [])) in
+    (more first (at-place (HasBoundGenerators s.scope.env) terms 0 first all f), more last (at-place (HasBoundGenerators s.scope.env) terms (length terms - 1) last all l))
 sense-bound s bound v sense (an_unproved_rewrite r p) name o = tt
 sense-bound s bound v sense (a_broken_statement r p) name o = tt
 
@@ -154,15 +154,15 @@ no-first None e = refl
 no-first (Some name) e = absurd cc
 
 -- where an import is accepted nothing clashes
-no-clash : Known → (s : Site) (v : Verdict) (env : List Binding) (word : ℕ) (as_word : Option ℕ) → IsJudged s v → v ≡ Accepted → IsSentence s.tokens (inclusion word as_word)
+no-clash : Known → (s : Site) (v : Verdict) (env : List Binding) (word : ℕ) (as_word : Option ℕ) → IsJudged s v → v ≡ Accepted → IsSentence s.scope.words (inclusion word as_word)
     → s.imported ≡ there env
-    → first_clash s.env (all_passed_on (prefix_at s as_word) env) ≡ None
+    → first_clash s.scope.env (all_passed_on (prefix_at s.scope as_word) env) ≡ None
 no-clash known s v env word as_word (no_sentence f) e t i = absurd (f.no_sentence (inclusion word as_word) t)
 no-clash known s v env word as_word (refused {tree} u r) e t i = absurd ((refused-bad s tree v r).1 e)
-no-clash known s v env word as_word (by_steps {name} {first} {steps} u p x) e t i = let same = known.trees s.tokens (inclusion word as_word) (rewrite name first steps) t u in absurd cc
+no-clash known s v env word as_word (by_steps {name} {first} {steps} u p x) e t i = let same = known.trees s.scope.words (inclusion word as_word) (rewrite name first steps) t u in absurd cc
 no-clash known s v env word as_word (accepted {tree} u p m) e t i =
-    let fits : import_fault s (inclusion word as_word) ≡ None = subst (λ x. import_fault s x ≡ None) (known.trees s.tokens tree (inclusion word as_word) u t) p.fits in
-    no-first (first_clash s.env (all_passed_on (prefix_at s as_word) env)) (subst (λ x. fault_of_module s.env x (prefix_at s as_word) ≡ None) i fits)
+    let fits : import_fault s (inclusion word as_word) ≡ None = subst (λ x. import_fault s x ≡ None) (known.trees s.scope.words tree (inclusion word as_word) u t) p.fits in
+    no-first (first_clash s.scope.env (all_passed_on (prefix_at s.scope as_word) env)) (subst (λ x. fault_of_module s.scope.env x (prefix_at s.scope as_word) ≡ None) i fits)
 
 -- what is imported has its generators bound there
 abbrev pub IsBoundImport : Imported → Type 0
@@ -181,25 +181,25 @@ import-bound library known here bs prefix meant there' none name dom cod g = go 
     go (c, has, same, inl e) = record { binding = c; has = has; is = ap (λ (b : Binding). b.sense) e ∙ g.is }
     go (c, has, same, inr old) = record { binding = c; has = has; is = meant-same library known here bs meant there' c g.binding old g.has same ∙ g.is }
 
-binds-bound : (library : Library) → Known → (s : Site) (n : ℕ) (v : Verdict) (next : List Binding) → AreMeant library s.env
-    → IsMeantImport library s.imported → AreBound s.env → IsBoundImport s.imported
+binds-bound : (library : Library) → Known → (s : Site) (n : ℕ) (v : Verdict) (next : List Binding) → AreMeant library s.scope.env
+    → IsMeantImport library s.imported → AreBound s.scope.env → IsBoundImport s.imported
     → IsJudged s v → Binds s n v next → AreBound next
 binds-bound library known s n v next meant im bound ib j (nothing e o) = bound
 binds-bound library known s n v next meant im bound ib j (again e f) = bound
 binds-bound library known s n v next meant im bound ib j (anew {name} {sense} e f x) =
     let b : Binding = record { name = name; origin = (s.home, n); sense = sense } in
-    let after = s.env ++ b ∷ [] in
+    let after = s.scope.env ++ b ∷ [] in
     let P : Binding → Type 0 = λ c. HasBoundSense after c.sense in
-    All-append P s.env (b ∷ []) (λ k d h. sense-covered s.env after (covers-append s.env (b ∷ [])) _ (bound k d h)) (All-cons P b [] (sense-bound s bound v sense x name (s.home, n)) (All-nil P))
+    All-append P s.scope.env (b ∷ []) (λ k d h. sense-covered s.scope.env after (covers-append s.scope.env (b ∷ [])) _ (bound k d h)) (All-cons P b [] (sense-bound s bound v sense x name (s.home, n)) (All-nil P))
 binds-bound library known s n v next meant im bound ib j (imports {word} {as_word} {env} f t i) =
     let none = no-clash known s v env word as_word j f t i in
-    let prefix = prefix_at s as_word in
+    let prefix = prefix_at s.scope as_word in
     let all = all_passed_on prefix env in
-    let after = s.env ++ new_in s.env all in
-    let covers = import-bound library known s.env env prefix meant (subst (IsMeantImport library) i im) none in
+    let after = s.scope.env ++ new_in s.scope.env all in
+    let covers = import-bound library known s.scope.env env prefix meant (subst (IsMeantImport library) i im) none in
     let theirs : AreBound env = subst IsBoundImport i ib in
     let P : Binding → Type 0 = λ c. HasBoundSense after c.sense in
-    All-append P s.env (new_in s.env all) (λ k d h. sense-covered s.env after (covers-append s.env (new_in s.env all)) _ (bound k d h))
+    All-append P s.scope.env (new_in s.scope.env all) (λ k d h. sense-covered s.scope.env after (covers-append s.scope.env (new_in s.scope.env all)) _ (bound k d h))
     (All-filter _ P all (All-map P (passed_on prefix) env (λ k d h. sense-covered env after covers _ (theirs k d h))))
 
 mutual
@@ -210,15 +210,15 @@ mutual
       let bound = stands-bound library known name k s st in
       binds-bound library known s k v env meant.0 meant.1 bound.0 bound.1 j x
 
-  pub stands-bound : (library : Library) → Known → (name : List ℕ) (number : ℕ) (s : Site) → Stands library name number s → AreBound s.env
+  pub stands-bound : (library : Library) → Known → (name : List ℕ) (number : ℕ) (s : Site) → Stands library name number s → AreBound s.scope.env
       × IsBoundImport s.imported
-  stands-bound library known name number s (stands h m e k f) = (makes-bound library known name number s.env k, finds-bound library known s.text s.tokens s.imported f)
+  stands-bound library known name number s (stands h m e k f) = (makes-bound library known name number s.scope.env k, finds-bound library known s.scope.words s.imported f)
 
-  finds-bound : (library : Library) → Known → (text : List ℕ) (tokens : List Token) (i : Imported) → Finds library text tokens i → IsBoundImport i
-  finds-bound library known text tokens i (no_import n) = tt
-  finds-bound library known text tokens i (of_none m e) = tt
-  finds-bound library known text tokens i (of_circle m e r) = tt
-  finds-bound library known text tokens i (found {name} {statements} {env} m f r k) = makes-bound library known name (length statements) env k
+  finds-bound : (library : Library) → Known → (tokens : List Word) (i : Imported) → Finds library tokens i → IsBoundImport i
+  finds-bound library known tokens i (no_import n) = tt
+  finds-bound library known tokens i (of_none m e) = tt
+  finds-bound library known tokens i (of_circle m e r) = tt
+  finds-bound library known tokens i (found {name} {statements} {env} m f r k) = makes-bound library known name (length statements) env k
 
 -- each generator of a term that a name stands for has a binding of its own in the same environment
 pub generators-bound : Known → GeneratorsAreBound

@@ -3,7 +3,7 @@ use Rattle.std.proofs.Common.{◌≡◌, ℕ, List, [], ◌∷◌, length, All, 
 use Rattle.std.specs.Prelude.{Contains}
 use Rattle.std.proofs.lemmas.List.Elements.{All-append, All-cons, All-nil, All-contains}
 use Rattle.chyp_base.specs.declared.verdict.Verdict.{Verdict}
-use Rattle.chyp_lex.specs.declared.token.Token.{Token}
+use Rattle.chyp_syntax.specs.Words.{Word}
 use Rattle.chyp_env.specs.Environment.{Binding}
 use Rattle.chyp_env.specs.Site.{Imported, there, Site}
 use Rattle.chyp_names.specs.Binding.{Binds, nothing, again, anew, imports}
@@ -26,7 +26,7 @@ abbrev pub IsMeantImport : Library → Imported → Type 0
 IsMeantImport library (there env) = AreMeant library env
 IsMeantImport library _ = Unit {0}
 
-binds-meant : (library : Library) (home : List ℕ) (n : ℕ) (s : Site) → Stands library home n s → AreMeant library s.env → IsMeantImport library s.imported
+binds-meant : (library : Library) (home : List ℕ) (n : ℕ) (s : Site) → Stands library home n s → AreMeant library s.scope.env → IsMeantImport library s.imported
     → (v : Verdict) (next : List Binding)
     → IsJudged s v → Binds s n v next → AreMeant library next
 binds-meant library home n s st here k v next j (nothing e o) = here
@@ -36,9 +36,9 @@ binds-meant library home n s st here k v next j (anew {name} {sense} e f x) =
     let b : Binding = record { name = name; origin = (s.home, n); sense = sense } in
     let st' : Stands library s.home n s = subst (λ h. Stands library h n s) (sym (home-is library home n s st)) st in
     let m : Means (standing library) (s.home, n) sense = record { site = s; verdict = v; stands = st'; judged = j; stands_for = x } in
-    All-append P s.env (b ∷ []) here (All-cons P b [] m (All-nil _))
+    All-append P s.scope.env (b ∷ []) here (All-cons P b [] m (All-nil _))
 binds-meant library home n s st here k v next j (imports {as_word} {env} f t i) =
-    import-all (λ b. Means (standing library) b.origin b.sense) s.env env (prefix_at s as_word) (λ b x. x) here (subst (IsMeantImport library) i k)
+    import-all (λ b. Means (standing library) b.origin b.sense) s.scope.env env (prefix_at s.scope as_word) (λ b x. x) here (subst (IsMeantImport library) i k)
 
 mutual
   pub makes-meant : (library : Library) (name : List ℕ) (number : ℕ) (env : List Binding) → Makes library name number env → AreMeant library env
@@ -47,14 +47,14 @@ mutual
       let meant = stands-meant library name k s st in
       binds-meant library name k s st meant.0 meant.1 v env j x
 
-  pub stands-meant : (library : Library) (name : List ℕ) (number : ℕ) (s : Site) → Stands library name number s → AreMeant library s.env × IsMeantImport library s.imported
-  stands-meant library name number s (stands h m e k f) = (makes-meant library name number s.env k, finds-meant library s.text s.tokens s.imported f)
+  pub stands-meant : (library : Library) (name : List ℕ) (number : ℕ) (s : Site) → Stands library name number s → AreMeant library s.scope.env × IsMeantImport library s.imported
+  stands-meant library name number s (stands h m e k f) = (makes-meant library name number s.scope.env k, finds-meant library s.scope.words s.imported f)
 
-  finds-meant : (library : Library) (text : List ℕ) (tokens : List Token) (i : Imported) → Finds library text tokens i → IsMeantImport library i
-  finds-meant library text tokens i (no_import n) = tt
-  finds-meant library text tokens i (of_none m e) = tt
-  finds-meant library text tokens i (of_circle m e r) = tt
-  finds-meant library text tokens i (found {name} {statements} {env} m f r k) = makes-meant library name (length statements) env k
+  finds-meant : (library : Library) (tokens : List Word) (i : Imported) → Finds library tokens i → IsMeantImport library i
+  finds-meant library tokens i (no_import n) = tt
+  finds-meant library tokens i (of_none m e) = tt
+  finds-meant library tokens i (of_circle m e r) = tt
+  finds-meant library tokens i (found {name} {statements} {env} m f r k) = makes-meant library name (length statements) env k
 
 -- two bindings of one origin stand for one thing
 pub meant-same : (library : Library) → Known → (env end : List Binding) → AreMeant library env → AreMeant library end → (a b : Binding) → Contains env a

@@ -1,9 +1,8 @@
 -- No statement stands at two sites, and no module makes two environments.
 use Rattle.std.proofs.Common.{◌≡◌, ℕ, List, length, Option, slice_get, refl, sym, ◌∙◌, ap, ap₂, subst}
-use Rattle.chyp_lex.specs.declared.token.Token.{Token}
 use Rattle.chyp_syntax.specs.Chunk.{AreChunks}
-use Rattle.chyp_syntax.specs.Heading.{text_at}
 use Rattle.chyp_syntax.specs.Statement.{inclusion}
+use Rattle.chyp_syntax.specs.Words.{Word, bytes_at}
 use Rattle.chyp_env.specs.Environment.{Sense, Binding}
 use Rattle.chyp_env.specs.Site.{Imported, there, Site}
 use Rattle.chyp_names.specs.Binding.{Binds, StandsFor}
@@ -19,14 +18,14 @@ use Rattle.chyp_verdicts.proofs.Known.{Known}
 
 -- ---- texts
 
-pub statements-unique : Known → (text : List ℕ) (ss rs : List (List Token)) → AreStatements text ss → AreStatements text rs → ss ≡ rs
+pub statements-unique : Known → (text : List ℕ) (ss rs : List (List Word)) → AreStatements text ss → AreStatements text rs → ss ≡ rs
 statements-unique known text ss rs a b =
     let tokens : a.tokens ≡ b.tokens = (known.tokens text).unique a.tokens b.tokens a.are_tokens b.are_tokens in
     let one = known.chunks a.tokens in
     let chunks : b.chunks ≡ a.chunks = one.2 b.chunks (subst (λ t. AreChunks t b.chunks) (sym tokens) b.are_chunks) ∙ sym (one.2 a.chunks a.are_chunks) in
-    a.each ∙ ap₂ statements_of tokens (sym chunks) ∙ sym b.each
+    a.each ∙ ap₂ (statements_of text) tokens (sym chunks) ∙ sym b.each
 
-pub module-unique : Known → (library : Library) (name text other : List ℕ) (ss rs : List (List Token)) → IsModule library name text ss → IsModule library name other rs → (text ≡ other) × (ss ≡ rs)
+pub module-unique : Known → (library : Library) (name text other : List ℕ) (ss rs : List (List Word)) → IsModule library name text ss → IsModule library name other rs → (text ≡ other) × (ss ≡ rs)
 module-unique known library name text other ss rs m n =
     let texts = some-once (library name) text other m.there n.there in
     (texts, statements-unique known text ss rs m.are (subst (λ t. AreStatements t rs) (sym texts) n.are))
@@ -35,23 +34,22 @@ module-unique known library name text other ss rs m n =
 inclusion-word : (word w : ℕ) (as_word a : Option ℕ) → inclusion word as_word ≡ inclusion w a → word ≡ w
 inclusion-word word w as_word a e = cc
 
-pub imports-unique : Known → (text : List ℕ) (tokens : List Token) (name other : List ℕ) → Imports text tokens name → Imports text tokens other → name ≡ other
-imports-unique known text tokens name other i j =
+pub imports-unique : Known → (tokens : List Word) (name other : List ℕ) → Imports tokens name → Imports tokens other → name ≡ other
+imports-unique known tokens name other i j =
     let words = inclusion-word i.word j.word i.as_word j.as_word (known.trees tokens (inclusion i.word i.as_word) (inclusion j.word j.as_word) i.is_sentence j.is_sentence) in
-    sym i.named ∙ ap (text_at text tokens) words ∙ j.named
+    sym i.named ∙ ap (bytes_at tokens) words ∙ j.named
 
-pub imports-not-nothing : (text : List ℕ) (tokens : List Token) (name : List ℕ) → ImportsNothing tokens → Imports text tokens name → ⊥
-imports-not-nothing text tokens name none i = none i.word i.as_word i.is_sentence
+pub imports-not-nothing : (tokens : List Word) (name : List ℕ) → ImportsNothing tokens → Imports tokens name → ⊥
+imports-not-nothing tokens name none i = none i.word i.as_word i.is_sentence
 
 -- ---- environments
 
-site-same : (s t : Site) → s.home ≡ t.home → s.text ≡ t.text → s.env ≡ t.env → s.tokens ≡ t.tokens → s.imported ≡ t.imported → s ≡ t
-site-same s t h x e k i =
-    ap (λ (a : List ℕ). record { home = a; text = s.text; env = s.env; tokens = s.tokens; imported = s.imported }) h
-    ∙ ap (λ (a : List ℕ). record { home = t.home; text = a; env = s.env; tokens = s.tokens; imported = s.imported }) x
-    ∙ ap (λ (a : List Binding). record { home = t.home; text = t.text; env = a; tokens = s.tokens; imported = s.imported }) e
-    ∙ ap (λ (a : List Token). record { home = t.home; text = t.text; env = t.env; tokens = a; imported = s.imported }) k
-    ∙ ap (λ (a : Imported). record { home = t.home; text = t.text; env = t.env; tokens = t.tokens; imported = a }) i
+site-same : (s t : Site) → s.home ≡ t.home → s.scope.env ≡ t.scope.env → s.scope.words ≡ t.scope.words → s.imported ≡ t.imported → s ≡ t
+site-same s t h e k i =
+    ap (λ (a : List ℕ). record { scope = s.scope; home = a; imported = s.imported }) h
+    ∙ ap (λ (a : List Binding). record { scope = record { words = s.scope.words; env = a }; home = t.home; imported = s.imported }) e
+    ∙ ap (λ (a : List Word). record { scope = record { words = a; env = t.scope.env }; home = t.home; imported = s.imported }) k
+    ∙ ap (λ (a : Imported). record { scope = t.scope; home = t.home; imported = a }) i
 
 mutual
   -- no module makes two environments
@@ -66,41 +64,40 @@ mutual
   -- no statement stands at two sites
   pub stands-unique : (library : Library) → Known → (name : List ℕ) (number : ℕ) (s t : Site) → Stands library name number s → Stands library name number t
       → s ≡ t
-  stands-unique library known name number s t (stands {statements = ss} h m e k f) (stands {statements = rs} g n d l o) =
-      let modules = module-unique known library name s.text t.text ss rs m n in
-      let tokens = some-once (slice_get ss number) s.tokens t.tokens e (ap (λ x. slice_get x number) modules.1 ∙ d) in
-      let envs = makes-unique library known name number s.env t.env k l in
-      let o' : Finds library s.text s.tokens t.imported =
-      subst (λ x. Finds library x s.tokens t.imported) (sym modules.0) (subst (λ x. Finds library t.text x t.imported) (sym tokens) o) in
-      let imports = finds-unique library known s.text s.tokens s.imported t.imported f o' in
-      site-same s t (h ∙ sym g) modules.0 envs tokens imports
+  stands-unique library known name number s t (stands {text} {statements = ss} h m e k f) (stands {text = other} {statements = rs} g n d l o) =
+      let modules = module-unique known library name text other ss rs m n in
+      let tokens = some-once (slice_get ss number) s.scope.words t.scope.words e (ap (λ x. slice_get x number) modules.1 ∙ d) in
+      let envs = makes-unique library known name number s.scope.env t.scope.env k l in
+      let o' : Finds library s.scope.words t.imported = subst (λ x. Finds library x t.imported) (sym tokens) o in
+      let imports = finds-unique library known s.scope.words s.imported t.imported f o' in
+      site-same s t (h ∙ sym g) envs tokens imports
 
   -- no statement imports two things
-  pub finds-unique : (library : Library) → Known → (text : List ℕ) (tokens : List Token) (i j : Imported) → Finds library text tokens i
-      → Finds library text tokens j → i ≡ j
-  finds-unique library known text tokens i j (no_import n) (no_import m) = refl
-  finds-unique library known text tokens i j (no_import n) (of_none {name} m e) = absurd (imports-not-nothing text tokens name n m)
-  finds-unique library known text tokens i j (no_import n) (of_circle {name} m e r) = absurd (imports-not-nothing text tokens name n m)
-  finds-unique library known text tokens i j (no_import n) (found {name} m e r k) = absurd (imports-not-nothing text tokens name n m)
-  finds-unique library known text tokens i j (of_none {name} m e) (no_import n) = absurd (imports-not-nothing text tokens name n m)
-  finds-unique library known text tokens i j (of_none m e) (of_none n f) = refl
-  finds-unique library known text tokens i j (of_none {name} m e) (of_circle {name = other} {whole} n f r) =
-      absurd (none-some _ whole (ap library (sym (imports-unique known text tokens name other m n)) ∙ e) f)
-  finds-unique library known text tokens i j (of_none {name} m e) (found {name = other} {whole} n f r k) =
-      absurd (none-some _ whole (ap library (sym (imports-unique known text tokens name other m n)) ∙ e) f.there)
-  finds-unique library known text tokens i j (of_circle {name} m e r) (no_import n) = absurd (imports-not-nothing text tokens name n m)
-  finds-unique library known text tokens i j (of_circle {name = other} {whole} n f r) (of_none {name} m e) =
-      absurd (none-some _ whole (ap library (sym (imports-unique known text tokens name other m n)) ∙ e) f)
-  finds-unique library known text tokens i j (of_circle m e r) (of_circle n f q) = refl
-  finds-unique library known text tokens i j (of_circle {name} m e r) (found {name = other} n f q k) =
-      absurd (q (subst (λ x. Reaches library x x) (imports-unique known text tokens name other m n) r))
-  finds-unique library known text tokens i j (found {name} m f r k) (no_import n) = absurd (imports-not-nothing text tokens name n m)
-  finds-unique library known text tokens i j (found {name = other} {whole} n f r k) (of_none {name} m e) =
-      absurd (none-some _ whole (ap library (sym (imports-unique known text tokens name other m n)) ∙ e) f.there)
-  finds-unique library known text tokens i j (found {name = other} n f q k) (of_circle {name} m e r) =
-      absurd (q (subst (λ x. Reaches library x x) (imports-unique known text tokens name other m n) r))
-  finds-unique library known text tokens i j (found {name} {whole} {statements} {env} m f r k) (found {name = other} {whole = w} {statements = rs} {env = e} n g q l) =
-      let names = (imports-unique known text tokens name other m n) in
+  pub finds-unique : (library : Library) → Known → (tokens : List Word) (i j : Imported) → Finds library tokens i
+      → Finds library tokens j → i ≡ j
+  finds-unique library known tokens i j (no_import n) (no_import m) = refl
+  finds-unique library known tokens i j (no_import n) (of_none {name} m e) = absurd (imports-not-nothing tokens name n m)
+  finds-unique library known tokens i j (no_import n) (of_circle {name} m e r) = absurd (imports-not-nothing tokens name n m)
+  finds-unique library known tokens i j (no_import n) (found {name} m e r k) = absurd (imports-not-nothing tokens name n m)
+  finds-unique library known tokens i j (of_none {name} m e) (no_import n) = absurd (imports-not-nothing tokens name n m)
+  finds-unique library known tokens i j (of_none m e) (of_none n f) = refl
+  finds-unique library known tokens i j (of_none {name} m e) (of_circle {name = other} {whole} n f r) =
+      absurd (none-some _ whole (ap library (sym (imports-unique known tokens name other m n)) ∙ e) f)
+  finds-unique library known tokens i j (of_none {name} m e) (found {name = other} {whole} n f r k) =
+      absurd (none-some _ whole (ap library (sym (imports-unique known tokens name other m n)) ∙ e) f.there)
+  finds-unique library known tokens i j (of_circle {name} m e r) (no_import n) = absurd (imports-not-nothing tokens name n m)
+  finds-unique library known tokens i j (of_circle {name = other} {whole} n f r) (of_none {name} m e) =
+      absurd (none-some _ whole (ap library (sym (imports-unique known tokens name other m n)) ∙ e) f)
+  finds-unique library known tokens i j (of_circle m e r) (of_circle n f q) = refl
+  finds-unique library known tokens i j (of_circle {name} m e r) (found {name = other} n f q k) =
+      absurd (q (subst (λ x. Reaches library x x) (imports-unique known tokens name other m n) r))
+  finds-unique library known tokens i j (found {name} m f r k) (no_import n) = absurd (imports-not-nothing tokens name n m)
+  finds-unique library known tokens i j (found {name = other} {whole} n f r k) (of_none {name} m e) =
+      absurd (none-some _ whole (ap library (sym (imports-unique known tokens name other m n)) ∙ e) f.there)
+  finds-unique library known tokens i j (found {name = other} n f q k) (of_circle {name} m e r) =
+      absurd (q (subst (λ x. Reaches library x x) (imports-unique known tokens name other m n) r))
+  finds-unique library known tokens i j (found {name} {whole} {statements} {env} m f r k) (found {name = other} {whole = w} {statements = rs} {env = e} n g q l) =
+      let names = (imports-unique known tokens name other m n) in
       let modules = module-unique known library name whole w statements rs f (subst (λ x. IsModule library x w rs) (sym names) g) in
       let l' : Makes library name (length statements) e = subst (λ x. Makes library name x e) (ap length (sym modules.1)) (subst (λ x. Makes library x (length rs) e) (sym names) l) in
       ap there (makes-unique library known name (length statements) env e k l')

@@ -4,13 +4,12 @@ use Rattle.std.specs.Prelude.{Contains}
 use Rattle.std.specs.List.{filter}
 use Rattle.std.specs.Str.{bytes_eq}
 use Rattle.std.proofs.lemmas.Bool.{false≢true}
-use Rattle.chyp_lex.specs.declared.token.Token.{Token}
 use Rattle.chyp_syntax.specs.Failing.{IsSentenceOrFails}
-use Rattle.chyp_syntax.specs.Heading.{text_at}
 use Rattle.chyp_syntax.specs.Sentence.{IsSentence}
 use Rattle.chyp_syntax.specs.Statement.{StatementTree, generator, definition, rule, rewrite, inclusion, showing}
 use Rattle.chyp_verdicts.specs.Texts.{statements_of}
 use Rattle.chyp_verdicts.proofs.OneVerdict.{none-some}
+use Rattle.chyp_syntax.specs.Words.{Word, bytes_at}
 use Rattle.chyp_modules.specs.Library.{Library, AreStatements}
 use Rattle.chyp_modules.specs.Import.{Imports, ImportsNothing, LeadsTo, Reaches, at_once, by_way_of}
 use Rattle.chyp_modules.specs.Laws.{ReachesOnly}
@@ -21,63 +20,63 @@ use Rattle.chyp_modules.proofs.Once.{imports-unique, module-unique}
 -- ---- texts and imports
 
 -- each text has its statements
-pub statements-there : Known → (text : List ℕ) → (ss : List (List Token)) × AreStatements text ss
+pub statements-there : Known → (text : List ℕ) → (ss : List (List Word)) × AreStatements text ss
 statements-there known text =
     let tokens = (known.tokens text).exists in
     let chunks = known.chunks tokens.0 in
-    (statements_of tokens.0 chunks.0, record { tokens = tokens.0; chunks = chunks.0; are_tokens = tokens.1; are_chunks = chunks.1; each = refl })
+    (statements_of text tokens.0 chunks.0, record { tokens = tokens.0; chunks = chunks.0; are_tokens = tokens.1; are_chunks = chunks.1; each = refl })
 
 -- an import, with what it imports
-pub record SomeImport (text : List ℕ) (tokens : List Token) : Type 0 where
+pub record SomeImport (tokens : List Word) : Type 0 where
   pub name : List ℕ
-  pub imports : Imports text tokens name
+  pub imports : Imports tokens name
 
 -- a statement is an import, or none
-pub import-or-not : Known → (text : List ℕ) (tokens : List Token) → SomeImport text tokens ⊎ ImportsNothing tokens
-import-or-not known text tokens = go (known.sentences tokens)
+pub import-or-not : Known → (tokens : List Word) → SomeImport tokens ⊎ ImportsNothing tokens
+import-or-not known tokens = go (known.sentences tokens)
   where
     other : (tree : StatementTree) → IsSentence tokens tree → ((word : ℕ) (a : Option ℕ) → ¬ (inclusion word a ≡ tree)) → ImportsNothing tokens
     other tree t no' word a s = no' word a (known.trees tokens (inclusion word a) tree s t)
 
-    of_tree : (tree : StatementTree) → IsSentence tokens tree → SomeImport text tokens ⊎ ImportsNothing tokens
-    of_tree (inclusion word a) t = inl (record { name = text_at text tokens word; imports = record { word = word; as_word = a; is_sentence = t; named = refl } })
+    of_tree : (tree : StatementTree) → IsSentence tokens tree → SomeImport tokens ⊎ ImportsNothing tokens
+    of_tree (inclusion word a) t = inl (record { name = bytes_at tokens word; imports = record { word = word; as_word = a; is_sentence = t; named = refl } })
     of_tree (generator name dom cod) t = inr (other (generator name dom cod) t (λ w a e. absurd cc))
     of_tree (definition name tree) t = inr (other (definition name tree) t (λ w a e. absurd cc))
     of_tree (rule name left equals right) t = inr (other (rule name left equals right) t (λ w a e. absurd cc))
     of_tree (rewrite name first steps) t = inr (other (rewrite name first steps) t (λ w a e. absurd cc))
     of_tree (showing name) t = inr (other (showing name) t (λ w a e. absurd cc))
 
-    go : IsSentenceOrFails tokens → SomeImport text tokens ⊎ ImportsNothing tokens
+    go : IsSentenceOrFails tokens → SomeImport tokens ⊎ ImportsNothing tokens
     go (inl t) = of_tree t.0 t.1
     go (inr f) = inr (λ word a s. f.1.no_sentence (inclusion word a) s)
 
 -- one of some statements that imports the module
-record ImportAmong (text : List ℕ) (ss : List (List Token)) (other : List ℕ) : Type 0 where
+record ImportAmong (ss : List (List Word)) (other : List ℕ) : Type 0 where
   number : ℕ
-  tokens : List Token
+  tokens : List Word
   here : slice_get ss number ≡ Some tokens
-  imports : Imports text tokens other
+  imports : Imports tokens other
 
-abbrev NoneImports : List ℕ → List (List Token) → List ℕ → Type 0
-NoneImports text ss other = (k : ℕ) (tokens : List Token) → slice_get ss k ≡ Some tokens → ¬ Imports text tokens other
+abbrev NoneImports : List (List Word) → List ℕ → Type 0
+NoneImports ss other = (k : ℕ) (tokens : List Word) → slice_get ss k ≡ Some tokens → ¬ Imports tokens other
 
-import-among : Known → (text : List ℕ) (ss : List (List Token)) (other : List ℕ) → ImportAmong text ss other ⊎ NoneImports text ss other
-import-among known text [] other = inr (λ k tokens e i. absurd cc)
-import-among known text (s ∷ ss) other = go (import-or-not known text s) (import-among known text ss other)
+import-among : Known → (ss : List (List Word)) (other : List ℕ) → ImportAmong ss other ⊎ NoneImports ss other
+import-among known [] other = inr (λ k tokens e i. absurd cc)
+import-among known (s ∷ ss) other = go (import-or-not known s) (import-among known ss other)
   where
-    behind : NoneImports text ss other → ¬ Imports text s other → NoneImports text (s ∷ ss) other
-    behind none no' zero tokens e i = let same : s ≡ tokens = cc in no' (subst (λ t. Imports text t other) (sym same) i)
+    behind : NoneImports ss other → ¬ Imports s other → NoneImports (s ∷ ss) other
+    behind none no' zero tokens e i = let same : s ≡ tokens = cc in no' (subst (λ t. Imports t other) (sym same) i)
     behind none no' (suc k) tokens e i = none k tokens e i
 
-    later : ImportAmong text ss other ⊎ NoneImports text ss other → ¬ Imports text s other → ImportAmong text (s ∷ ss) other ⊎ NoneImports text (s ∷ ss) other
+    later : ImportAmong ss other ⊎ NoneImports ss other → ¬ Imports s other → ImportAmong (s ∷ ss) other ⊎ NoneImports (s ∷ ss) other
     later (inl a) no' = inl (record { number = suc a.number; tokens = a.tokens; here = a.here; imports = a.imports })
     later (inr n) no' = inr (behind n no')
 
-    named : (i : SomeImport text s) → (b : Bool) → bytes_eq i.name other ≡ b → ImportAmong text ss other ⊎ NoneImports text ss other → ImportAmong text (s ∷ ss) other ⊎ NoneImports text (s ∷ ss) other
-    named i true e rest = inl (record { number = 0; tokens = s; here = refl; imports = subst (λ n. Imports text s n) (names-eq i.name other e) i.imports })
-    named i false e rest = later rest (λ j. false≢true (sym e ∙ names-same i.name other (imports-unique known text s i.name other i.imports j)))
+    named : (i : SomeImport s) → (b : Bool) → bytes_eq i.name other ≡ b → ImportAmong ss other ⊎ NoneImports ss other → ImportAmong (s ∷ ss) other ⊎ NoneImports (s ∷ ss) other
+    named i true e rest = inl (record { number = 0; tokens = s; here = refl; imports = subst (λ n. Imports s n) (names-eq i.name other e) i.imports })
+    named i false e rest = later rest (λ j. false≢true (sym e ∙ names-same i.name other (imports-unique known s i.name other i.imports j)))
 
-    go : SomeImport text s ⊎ ImportsNothing s → ImportAmong text ss other ⊎ NoneImports text ss other → ImportAmong text (s ∷ ss) other ⊎ NoneImports text (s ∷ ss) other
+    go : SomeImport s ⊎ ImportsNothing s → ImportAmong ss other ⊎ NoneImports ss other → ImportAmong (s ∷ ss) other ⊎ NoneImports (s ∷ ss) other
     go (inl i) rest = named i (bytes_eq i.name other) refl rest
     go (inr n) rest = later rest (λ j. n j.word j.as_word j.is_sentence)
 
@@ -85,16 +84,16 @@ import-among known text (s ∷ ss) other = go (import-or-not known text s) (impo
 pub leads-or-not : Known → (library : Library) (name other : List ℕ) → LeadsTo library name other ⊎ ¬ LeadsTo library name other
 leads-or-not known library name other = go (library name) refl
   where
-    found : (text : List ℕ) → library name ≡ Some text → (ss : (rs : List (List Token)) × AreStatements text rs) → ImportAmong text ss.0 other ⊎ NoneImports text ss.0 other
+    found : (text : List ℕ) → library name ≡ Some text → (ss : (rs : List (List Word)) × AreStatements text rs) → ImportAmong ss.0 other ⊎ NoneImports ss.0 other
         → LeadsTo library name other ⊎ ¬ LeadsTo library name other
-    found text e ss (inl a) = inl (record { text = text; statements = ss.0; is_module = record { there = e; are = ss.1 }; number = a.number; tokens = a.tokens; here = a.here; imports = a.imports })
+    found text e ss (inl a) = inl (record { text = text; statements = ss.0; is_module = record { there = e; are = ss.1 }; number = a.number; words = a.tokens; here = a.here; imports = a.imports })
     found text e ss (inr none) = inr (λ l.
         let same = module-unique known library name text l.text ss.0 l.statements (record { there = e; are = ss.1 }) l.is_module in
-        none l.number l.tokens (ap (λ x. slice_get x l.number) same.1 ∙ l.here) (subst (λ t. Imports t l.tokens other) (sym same.0) l.imports))
+        none l.number l.words (ap (λ x. slice_get x l.number) same.1 ∙ l.here) l.imports)
 
     go : (o : Option (List ℕ)) → library name ≡ o → LeadsTo library name other ⊎ ¬ LeadsTo library name other
     go None e = inr (λ l. none-some (library name) l.text e l.is_module.there)
-    go (Some text) e = let ss = statements-there known text in found text e ss (import-among known text ss.0 other)
+    go (Some text) e = let ss = statements-there known text in found text e ss (import-among known ss.0 other)
 
 -- ---- chains
 

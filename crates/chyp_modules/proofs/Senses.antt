@@ -1,7 +1,7 @@
 -- What names stand for is sound in every module.
 use Rattle.std.proofs.Common.{ℕ, List, length}
 use Rattle.std.proofs.lemmas.List.Elements.{All-nil}
-use Rattle.chyp_lex.specs.declared.token.Token.{Token}
+use Rattle.chyp_syntax.specs.Words.{Word}
 use Rattle.chyp_env.specs.Environment.{Binding}
 use Rattle.chyp_env.specs.Site.{Imported, Site}
 use Rattle.chyp_env.specs.Sound.{IsSound}
@@ -18,11 +18,11 @@ mutual
       let sound = stands-sound library known name k s st in
       binds-sound known s k v env sound.0 sound.1 j x
 
-  pub stands-sound : (library : Library) → Known → (name : List ℕ) (number : ℕ) (s : Site) → Stands library name number s → IsSound s.env × IsSoundImport s.imported
-  stands-sound library known name number s (stands h m e k f) = (makes-sound library known name number s.env k, finds-sound library known s.text s.tokens s.imported f)
+  pub stands-sound : (library : Library) → Known → (name : List ℕ) (number : ℕ) (s : Site) → Stands library name number s → IsSound s.scope.env × IsSoundImport s.imported
+  stands-sound library known name number s (stands h m e k f) = (makes-sound library known name number s.scope.env k, finds-sound library known s.scope.words s.imported f)
 
-  pub finds-sound : (library : Library) → Known → (text : List ℕ) (tokens : List Token) (i : Imported) → Finds library text tokens i → IsSoundImport i
-  finds-sound library known text tokens i (no_import n) = tt
-  finds-sound library known text tokens i (of_none m e) = tt
-  finds-sound library known text tokens i (of_circle m e r) = tt
-  finds-sound library known text tokens i (found {name} {statements} {env} m f r k) = makes-sound library known name (length statements) env k
+  pub finds-sound : (library : Library) → Known → (tokens : List Word) (i : Imported) → Finds library tokens i → IsSoundImport i
+  finds-sound library known tokens i (no_import n) = tt
+  finds-sound library known tokens i (of_none m e) = tt
+  finds-sound library known tokens i (of_circle m e r) = tt
+  finds-sound library known tokens i (found {name} {statements} {env} m f r k) = makes-sound library known name (length statements) env k

@@ -4,7 +4,7 @@ use Rattle.std.specs.Prelude.{Contains, find}
 use Rattle.std.specs.Option.{option_map_or}
 use Rattle.std.specs.Str.{bytes_eq}
 use Rattle.chyp_base.specs.declared.verdict.Verdict.{Verdict}
-use Rattle.chyp_lex.specs.declared.token.Token.{Token}
+use Rattle.chyp_syntax.specs.Words.{Word}
 use Rattle.chyp_env.specs.Environment.{Binding}
 use Rattle.chyp_env.specs.Site.{Site}
 use Rattle.chyp_modules.specs.Library.{Library, IsModule, with_main}
@@ -34,7 +34,7 @@ mutual
       record { verdicts = front.verdicts ++ v ∷ []; have = push-verdict (standing library) name k front.verdicts v front.have (record { site = s; stands = st; judged = j }) }
 
   stands-verdicts : (library : Library) (name : List ℕ) (number : ℕ) (s : Site) → Stands library name number s → SomeVerdicts library name number
-  stands-verdicts library name number s (stands h m e k f) = makes-verdicts library name number s.env k
+  stands-verdicts library name number s (stands h m e k f) = makes-verdicts library name number s.scope.env k
 
 gets-once : (library : Library) → Known → (name : List ℕ) (number : ℕ) (v w : Verdict) → Gets (standing library) (name, number) v → Gets (standing library) (name, number) w → v ≡ w
 gets-once library known name number v w a b =
@@ -43,17 +43,17 @@ gets-once library known name number v w a b =
 
 -- ---- modules
 
-one-environment : (library : Library) → Known → (name text : List ℕ) (ss : List (List Token)) → IsModule library name text ss
+one-environment : (library : Library) → Known → (name text : List ℕ) (ss : List (List Word)) → IsModule library name text ss
     → SomeEnv (Makes library name (length ss)) → HasOneEnvironment library name
 one-environment library known name text ss m some = record {
   env = some.env;
   has = record { text = text; statements = ss; is_module = m; makes = some.is };
   only = λ other h.
       let same = module-unique known library name h.text text h.statements ss h.is_module m in
-      makes-unique library known name (length ss) other some.env (subst (λ (x : List (List Token)). Makes library name (length x) other) same.1 h.makes) some.is;
+      makes-unique library known name (length ss) other some.env (subst (λ (x : List (List Word)). Makes library name (length x) other) same.1 h.makes) some.is;
 }
 
-one-list : (library : Library) → Known → (name text : List ℕ) (ss : List (List Token)) → IsModule library name text ss
+one-list : (library : Library) → Known → (name text : List ℕ) (ss : List (List Word)) → IsModule library name text ss
     → SomeEnv (Makes library name (length ss)) → HasOneListOfVerdicts library name
 one-list library known name text ss m some =
     let all = makes-verdicts library name (length ss) some.env some.is in

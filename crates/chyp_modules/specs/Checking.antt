@@ -3,7 +3,7 @@
 use Rattle.std.specs.Prelude.{◌≡◌, ℕ, ◌+◌, ◌<◌, ◌≤◌, List, [], ◌∷◌, length, Contains, Some}
 use Rattle.chyp_base.specs.declared.verdict.Verdict.{Verdict}
 use Rattle.chyp_lex.specs.Tokens.{text_limit}
-use Rattle.chyp_lex.specs.declared.token.Token.{Token}
+use Rattle.chyp_syntax.specs.Words.{Word}
 use Rattle.chyp_modules.specs.Import.{Reaches}
 use Rattle.chyp_modules.specs.Library.{Library, IsModule, with_main}
 use Rattle.chyp_modules.specs.Modules.{AreVerdicts}
@@ -34,7 +34,7 @@ AreAllWanted library names = AreWanted library names × ((name text : List ℕ) 
 -- some modules have this many statements together
 pub data HaveStatements (library : Library) : List (List ℕ) → ℕ → Type 0 where
   of_none : HaveStatements library [] 0
-  of_more : {name text : List ℕ} {statements : List (List Token)} {names : List (List ℕ)} {n : ℕ} → IsModule library name text statements
+  of_more : {name text : List ℕ} {statements : List (List Word)} {names : List (List ℕ)} {n : ℕ} → IsModule library name text statements
       → HaveStatements library names n
       → HaveStatements library (name ∷ names) (length statements + n)
 

@@ -4,6 +4,7 @@ use Rattle.chyp_lex.specs.Tokens.{AreTokens}
 use Rattle.chyp_lex.specs.declared.token.Token.{Token}
 use Rattle.chyp_syntax.specs.Chunk.{AreChunks}
 use Rattle.chyp_syntax.specs.declared.chunk.Chunk.{Chunk}
+use Rattle.chyp_syntax.specs.Words.{Word}
 use Rattle.chyp_verdicts.specs.Texts.{statements_of}
 
 -- the text of each module, by its name; None where there is no such module
@@ -15,15 +16,15 @@ abbrev pub with_main : Library → List ℕ → Library
 with_main library text [] = Some text
 with_main library text (byte ∷ name) = library (byte ∷ name)
 
--- the statements of a text, each by its tokens
-pub record AreStatements (text : List ℕ) (statements : List (List Token)) : Type 0 where
+-- the statements of a text, each by its words
+pub record AreStatements (text : List ℕ) (statements : List (List Word)) : Type 0 where
   pub tokens : List Token
   pub chunks : List Chunk
   pub are_tokens : AreTokens text tokens
   pub are_chunks : AreChunks tokens chunks
-  pub each : statements ≡ statements_of tokens chunks
+  pub each : statements ≡ statements_of text tokens chunks
 
 -- the module of this name is there, with this text and these statements
-pub record IsModule (library : Library) (name text : List ℕ) (statements : List (List Token)) : Type 0 where
+pub record IsModule (library : Library) (name text : List ℕ) (statements : List (List Word)) : Type 0 where
   pub there : library name ≡ Some text
   pub are : AreStatements text statements

@@ -14,8 +14,8 @@ use Rattle.chyp_syntax.specs.declared.statement.Ast.{Ast}
 use Rattle.chyp_syntax.specs.declared.statement.Ast.TheVariants.{LetDecl, RuleDecl, RewriteDecl}
 use Rattle.chyp_syntax.specs.Statement.{statement_of}
 use Rattle.chyp_term.specs.Limits.{IsWithinLimits}
-use Rattle.chyp_env.specs.Site.{Site}
-use Rattle.chyp_names.specs.Elaboration.{expansion_at, terms_of}
+use Rattle.chyp_env.specs.Scope.{Scope}
+use Rattle.chyp_names.specs.Elaboration.{expansion_at, terms_in}
 use Rattle.chyp_names.specs.Goals.{goal_term, goal_terms, FitBehind, IsSum}
 use Rattle.chyp_names.specs.Limits.{AreWithinLimits, HasFewPorts, most_together}
 
@@ -31,8 +31,8 @@ take_more (y ∷ xs) (suc k) x within is =
 pub take_whole : {X : Type 0} (xs : List X) (k : ℕ) (x : X) → k < length xs → x ≡ slice_index_or xs k x → (take k xs ++ x ∷ []) ++ drop (k + 1) xs ≡ xs
 take_whole xs k x within is = ap (λ ys. ys ++ drop (k + 1) xs) (sym (take_more xs k x within is)) ∙ take-append-drop (k + 1) xs
 
-pub goal_terms-append : (site : Site) (steps others : List StepAst) → goal_terms site (steps ++ others) ≡ goal_terms site steps ++ goal_terms site others
-goal_terms-append site steps others = ap (filter_map (goal_term site)) (map-append step_of steps others) ∙ filter_map-append (goal_term site) (map step_of steps) (map step_of others)
+pub goal_terms-append : (scope : Scope) (steps others : List StepAst) → goal_terms scope (steps ++ others) ≡ goal_terms scope steps ++ goal_terms scope others
+goal_terms-append scope steps others = ap (filter_map (goal_term scope)) (map-append step_of steps others) ∙ filter_map-append (goal_term scope) (map step_of steps) (map step_of others)
 
 pub all_front : {X : Type 0} (P : X → Type 0) (xs ys : List X) → All P (xs ++ ys) → All P xs
 all_front P [] ys h = All-nil P
@@ -70,45 +70,45 @@ pub sum_one : (before : ℕ) (xs : List Morphism) (sum : ℕ) → IsSum before x
 sum_one before xs sum is = let together = is.0.together in let same = is.1 in omega arith
 
 -- the sum over the steps so far
-pub sum_step : (site : Site) (before sum : ℕ) (steps : List StepAst) (k : ℕ) (step : StepAst) (result : Option ℕ) → k < length steps → step ≡ slice_index_or steps k step
-    → IsSum before (goal_terms site (take k steps)) (Some sum) → IsSum sum (goal_terms site (step ∷ [])) result → IsSum before (goal_terms site (take (k + 1) steps)) result
-sum_step site before sum steps k step result within is so_far next =
-    subst (λ terms. IsSum before terms result) (sym (ap (goal_terms site) (take_more steps k step within is) ∙ goal_terms-append site (take k steps) (step ∷ [])))
-    (sum_more before sum (goal_terms site (take k steps)) (goal_terms site (step ∷ [])) result so_far next)
+pub sum_step : (scope : Scope) (before sum : ℕ) (steps : List StepAst) (k : ℕ) (step : StepAst) (result : Option ℕ) → k < length steps → step ≡ slice_index_or steps k step
+    → IsSum before (goal_terms scope (take k steps)) (Some sum) → IsSum sum (goal_terms scope (step ∷ [])) result → IsSum before (goal_terms scope (take (k + 1) steps)) result
+sum_step scope before sum steps k step result within is so_far next =
+    subst (λ terms. IsSum before terms result) (sym (ap (goal_terms scope) (take_more steps k step within is) ∙ goal_terms-append scope (take k steps) (step ∷ [])))
+    (sum_more before sum (goal_terms scope (take k steps)) (goal_terms scope (step ∷ [])) result so_far next)
 
 -- where a step doesn't fit, all steps don't
-pub sum_stops : (site : Site) (before sum : ℕ) (steps : List StepAst) (k : ℕ) (step : StepAst) → k < length steps → step ≡ slice_index_or steps k step
-    → IsSum before (goal_terms site (take k steps)) (Some sum) → IsSum sum (goal_terms site (step ∷ [])) None → IsSum before (goal_terms site steps) None
-sum_stops site before sum steps k step within is so_far next = λ fit.
-    sum_step site before sum steps k step None within is so_far next
-    (fit_front before (goal_terms site (take (k + 1) steps)) (goal_terms site (drop (k + 1) steps))
-    (subst (FitBehind before) (ap (goal_terms site) (sym (take-append-drop (k + 1) steps)) ∙ goal_terms-append site (take (k + 1) steps) (drop (k + 1) steps)) fit))
+pub sum_stops : (scope : Scope) (before sum : ℕ) (steps : List StepAst) (k : ℕ) (step : StepAst) → k < length steps → step ≡ slice_index_or steps k step
+    → IsSum before (goal_terms scope (take k steps)) (Some sum) → IsSum sum (goal_terms scope (step ∷ [])) None → IsSum before (goal_terms scope steps) None
+sum_stops scope before sum steps k step within is so_far next = λ fit.
+    sum_step scope before sum steps k step None within is so_far next
+    (fit_front before (goal_terms scope (take (k + 1) steps)) (goal_terms scope (drop (k + 1) steps))
+    (subst (FitBehind before) (ap (goal_terms scope) (sym (take-append-drop (k + 1) steps)) ∙ goal_terms-append scope (take (k + 1) steps) (drop (k + 1) steps)) fit))
 
-pub sum_all : (site : Site) (before sum : ℕ) (steps : List StepAst) (k : ℕ) → length steps ≤ k → IsSum before (goal_terms site (take k steps)) (Some sum)
-    → IsSum before (goal_terms site steps) (Some sum)
-sum_all site before sum steps k end so_far = subst (λ xs. IsSum before (goal_terms site xs) (Some sum)) (take_all k steps end) so_far
+pub sum_all : (scope : Scope) (before sum : ℕ) (steps : List StepAst) (k : ℕ) → length steps ≤ k → IsSum before (goal_terms scope (take k steps)) (Some sum)
+    → IsSum before (goal_terms scope steps) (Some sum)
+sum_all scope before sum steps k end so_far = subst (λ xs. IsSum before (goal_terms scope xs) (Some sum)) (take_all k steps end) so_far
 
 -- a statement is small exactly where its terms have a sum
-abbrev pub IsDecided : Site → Ast → Bool → Type 0
-IsDecided site ast small =
-    (IsTrue small → AreWithinLimits (statement_of ast) (terms_of site (statement_of ast))) × (AreWithinLimits (statement_of ast) (terms_of site (statement_of ast)) → IsTrue small)
+abbrev pub IsDecided : List ℕ → Scope → Ast → Bool → Type 0
+IsDecided home scope ast small =
+    (IsTrue small → AreWithinLimits (statement_of ast) (terms_in home scope (statement_of ast))) × (AreWithinLimits (statement_of ast) (terms_in home scope (statement_of ast)) → IsTrue small)
 
-decided : (site : Site) (ast : Ast) (sum : Option ℕ) → HasFewPorts (statement_of ast) → IsSum 0 (terms_of site (statement_of ast)) sum → IsDecided site ast (is_some sum)
-decided site ast (Some sum) few is =
+decided : (home : List ℕ) (scope : Scope) (ast : Ast) (sum : Option ℕ) → HasFewPorts (statement_of ast) → IsSum 0 (terms_in home scope (statement_of ast)) sum → IsDecided home scope ast (is_some sum)
+decided home scope ast (Some sum) few is =
     (λ t. record { ports = few; each = is.0.each; together = let h = is.0.together in omega arith }, λ small. refl)
-decided site ast None few is =
+decided home scope ast None few is =
     (λ t. absurd (true≢false (sym t)), λ small. absurd (is (record { each = small.each; together = let h = small.together in omega arith })))
 
-pub let_decided : (site : Site) (ast : Ast) (name : ℕ) (tree : TermAst) (sum : Option ℕ) → ast ≡ LetDecl name tree → IsSum 0 (expansion_at site (tree_of tree) ∷ []) sum
-    → IsDecided site ast (is_some sum)
-let_decided site ast name tree sum e is = subst (λ a. IsDecided site a (is_some sum)) (sym e) (decided site (LetDecl name tree) sum tt is)
+pub let_decided : (home : List ℕ) (scope : Scope) (ast : Ast) (name : ℕ) (tree : TermAst) (sum : Option ℕ) → ast ≡ LetDecl name tree → IsSum 0 (expansion_at scope (tree_of tree) ∷ []) sum
+    → IsDecided home scope ast (is_some sum)
+let_decided home scope ast name tree sum e is = subst (λ a. IsDecided home scope a (is_some sum)) (sym e) (decided home scope (LetDecl name tree) sum tt is)
 
-pub rule_decided : (site : Site) (ast : Ast) (name : ℕ) (left : TermAst) (equals : ℕ) (right : TermAst) (sum : Option ℕ) → ast ≡ RuleDecl name left equals right
-    → IsSum 0 (expansion_at site (tree_of left) ∷ expansion_at site (tree_of right) ∷ []) sum → IsDecided site ast (is_some sum)
-rule_decided site ast name left equals right sum e is = subst (λ a. IsDecided site a (is_some sum)) (sym e) (decided site (RuleDecl name left equals right) sum tt is)
+pub rule_decided : (home : List ℕ) (scope : Scope) (ast : Ast) (name : ℕ) (left : TermAst) (equals : ℕ) (right : TermAst) (sum : Option ℕ) → ast ≡ RuleDecl name left equals right
+    → IsSum 0 (expansion_at scope (tree_of left) ∷ expansion_at scope (tree_of right) ∷ []) sum → IsDecided home scope ast (is_some sum)
+rule_decided home scope ast name left equals right sum e is = subst (λ a. IsDecided home scope a (is_some sum)) (sym e) (decided home scope (RuleDecl name left equals right) sum tt is)
 
-pub rewrite_decided : (site : Site) (ast : Ast) (name : ℕ) (first : TermAst) (steps items : List StepAst) (sum : Option ℕ) → ast ≡ RewriteDecl name first steps → items ≡ steps
-    → IsSum 0 (expansion_at site (tree_of first) ∷ goal_terms site items) sum → IsDecided site ast (is_some sum)
-rewrite_decided site ast name first steps items sum e same is =
-    subst (λ a. IsDecided site a (is_some sum)) (sym e)
-    (decided site (RewriteDecl name first steps) sum tt (subst (λ xs. IsSum 0 (expansion_at site (tree_of first) ∷ goal_terms site xs) sum) same is))
+pub rewrite_decided : (home : List ℕ) (scope : Scope) (ast : Ast) (name : ℕ) (first : TermAst) (steps items : List StepAst) (sum : Option ℕ) → ast ≡ RewriteDecl name first steps → items ≡ steps
+    → IsSum 0 (expansion_at scope (tree_of first) ∷ goal_terms scope items) sum → IsDecided home scope ast (is_some sum)
+rewrite_decided home scope ast name first steps items sum e same is =
+    subst (λ a. IsDecided home scope a (is_some sum)) (sym e)
+    (decided home scope (RewriteDecl name first steps) sum tt (subst (λ xs. IsSum 0 (expansion_at scope (tree_of first) ∷ goal_terms scope xs) sum) same is))

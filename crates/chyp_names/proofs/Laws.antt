@@ -14,7 +14,7 @@ use Rattle.chyp_syntax.specs.Statement.{statement_of}
 use Rattle.chyp_syntax.specs.Step.{step_of}
 use Rattle.chyp_syntax.specs.Term.{tree_of}
 use Rattle.chyp_env.specs.Environment.{Sense, generator, abbreviation, law, unproved, broken, Binding}
-use Rattle.chyp_env.specs.Site.{Site, binding_at}
+use Rattle.chyp_env.specs.Scope.{Scope, binding_at}
 use Rattle.chyp_names.specs.Elaboration.{reason_at}
 use Rattle.chyp_names.specs.Laws.{is_law, IsLawAt, RestsOnLaws}
 use Rattle.chyp_names.specs.Naming.{Use, in_reason, names_of_reason, uses_in, uses_in_goal, uses_in_step, fault_of, fault_in_reason, fault_or_unknown, unproved_use, unproved_token, first_fault, first_unproved}
@@ -22,21 +22,21 @@ use Rattle.chyp_names.proofs.Firsts.{nil_left, nil_right, none_first}
 use Rattle.chyp_names.proofs.Uses.{unproved_of_rewrite, unproved_in_step, step_uses}
 
 -- the rules of a `by` are laws
-pub simp_laws : (site : Site) (reason : ReasonAst) (rules items : List SignedAst) → reason ≡ Simp rules → items ≡ rules → RestsOnLaws site reason
-    → All (λ (rule : SignedAst). IsLawAt site rule.name) items
-simp_laws site reason rules items is same laws =
-    subst (λ (xs : List SignedAst). All (λ (rule : SignedAst). IsLawAt site rule.name) xs) (sym same) (go rules (subst (RestsOnLaws site) is laws))
+pub simp_laws : (scope : Scope) (reason : ReasonAst) (rules items : List SignedAst) → reason ≡ Simp rules → items ≡ rules → RestsOnLaws scope reason
+    → All (λ (rule : SignedAst). IsLawAt scope rule.name) items
+simp_laws scope reason rules items is same laws =
+    subst (λ (xs : List SignedAst). All (λ (rule : SignedAst). IsLawAt scope rule.name) xs) (sym same) (go rules (subst (RestsOnLaws scope) is laws))
   where
-    go : (rules : List SignedAst) → All (IsLawAt site) (map (λ rule. rule.name) rules) → All (λ (rule : SignedAst). IsLawAt site rule.name) rules
-    go [] h = All-nil (λ (rule : SignedAst). IsLawAt site rule.name)
+    go : (rules : List SignedAst) → All (IsLawAt scope) (map (λ rule. rule.name) rules) → All (λ (rule : SignedAst). IsLawAt scope rule.name) rules
+    go [] h = All-nil (λ (rule : SignedAst). IsLawAt scope rule.name)
     go (rule ∷ rules) h =
-        All-cons (λ (rule : SignedAst). IsLawAt site rule.name) rule rules (All-head (IsLawAt site) rule.name (map (λ rule. rule.name) rules) h)
-        (go rules (All-tail (IsLawAt site) rule.name (map (λ rule. rule.name) rules) h))
+        All-cons (λ (rule : SignedAst). IsLawAt scope rule.name) rule rules (All-head (IsLawAt scope) rule.name (map (λ rule. rule.name) rules) h)
+        (go rules (All-tail (IsLawAt scope) rule.name (map (λ rule. rule.name) rules) h))
 
 -- the reasons of steps and of their trees
-pub reasons_of_steps : (site : Site) (steps : List StepAst) → map (λ (step : StepAst). reason_at site step.reason) steps ≡ map (λ step. reason_at site step.reason) (map step_of steps)
-reasons_of_steps site [] = refl
-reasons_of_steps site (step ∷ steps) = ap (λ rs. reason_at site step.reason ∷ rs) (reasons_of_steps site steps)
+pub reasons_of_steps : (scope : Scope) (steps : List StepAst) → map (λ (step : StepAst). reason_at scope step.reason) steps ≡ map (λ step. reason_at scope step.reason) (map step_of steps)
+reasons_of_steps scope [] = refl
+reasons_of_steps scope (step ∷ steps) = ap (λ rs. reason_at scope step.reason ∷ rs) (reasons_of_steps scope steps)
 
 unproved_sense : (b : Binding) (token : ℕ) → b.sense ≡ unproved → unproved_token (Some b) token ≡ Some token
 unproved_sense b token e = rw e refl
@@ -49,8 +49,8 @@ law_sense (generator name dom cod) b token e f u = absurd (true≢false (ap is_s
 law_sense (abbreviation m) b token e f u = absurd (true≢false (ap is_some f))
 
 -- a name behind a `by` that is in order and proved is a law
-law_there : (site : Site) (token : ℕ) → fault_of site (in_reason token) ≡ None → unproved_use site (in_reason token) ≡ None → IsLawAt site token
-law_there site token = go (binding_at site token)
+law_there : (scope : Scope) (token : ℕ) → fault_of scope (in_reason token) ≡ None → unproved_use scope (in_reason token) ≡ None → IsLawAt scope token
+law_there scope token = go (binding_at scope token)
   where
     go : (o : Option Binding) → fault_or_unknown fault_in_reason o token ≡ None → unproved_token o token ≡ None → IsTrue (option_map_or (λ binding. is_law binding.sense) o false)
     go None f u = absurd (true≢false (ap is_some f))
@@ -71,38 +71,38 @@ module _ {U V : Type 0} (f : U → Option V) (u : U) (us : List U) where
       go None e = e
       go (Some v) e = absurd (true≢false (ap (λ vs. is_some (slice_get vs 0)) e))
 
-laws_there : (site : Site) (names : List ℕ) → filter_map (fault_of site) (map in_reason names) ≡ [] → filter_map (unproved_use site) (map in_reason names) ≡ []
-    → All (IsLawAt site) names
-laws_there site [] f u = All-nil (IsLawAt site)
-laws_there site (name ∷ names) f u =
-    All-cons (IsLawAt site) name names
-    (law_there site name (nothing_first (fault_of site) (in_reason name) (map in_reason names) f) (nothing_first (unproved_use site) (in_reason name) (map in_reason names) u))
-    (laws_there site names (nothing_behind (fault_of site) (in_reason name) (map in_reason names) f) (nothing_behind (unproved_use site) (in_reason name) (map in_reason names) u))
+laws_there : (scope : Scope) (names : List ℕ) → filter_map (fault_of scope) (map in_reason names) ≡ [] → filter_map (unproved_use scope) (map in_reason names) ≡ []
+    → All (IsLawAt scope) names
+laws_there scope [] f u = All-nil (IsLawAt scope)
+laws_there scope (name ∷ names) f u =
+    All-cons (IsLawAt scope) name names
+    (law_there scope name (nothing_first (fault_of scope) (in_reason name) (map in_reason names) f) (nothing_first (unproved_use scope) (in_reason name) (map in_reason names) u))
+    (laws_there scope names (nothing_behind (fault_of scope) (in_reason name) (map in_reason names) f) (nothing_behind (unproved_use scope) (in_reason name) (map in_reason names) u))
 
-laws_in_steps : (site : Site) (steps : List StepAst) → filter_map (fault_of site) (flat_map uses_in_step (map step_of steps)) ≡ []
-    → filter_map (unproved_use site) (flat_map uses_in_step (map step_of steps)) ≡ [] → All (λ (step : StepAst). RestsOnLaws site step.reason) steps
-laws_in_steps site [] f u = All-nil (λ (step : StepAst). RestsOnLaws site step.reason)
-laws_in_steps site (step ∷ steps) f u =
+laws_in_steps : (scope : Scope) (steps : List StepAst) → filter_map (fault_of scope) (flat_map uses_in_step (map step_of steps)) ≡ []
+    → filter_map (unproved_use scope) (flat_map uses_in_step (map step_of steps)) ≡ [] → All (λ (step : StepAst). RestsOnLaws scope step.reason) steps
+laws_in_steps scope [] f u = All-nil (λ (step : StepAst). RestsOnLaws scope step.reason)
+laws_in_steps scope (step ∷ steps) f u =
     let rest : List Use = flat_map uses_in_step (map step_of steps) in
-    let f2 = sym (filter_map-append (fault_of site) (step_uses step) rest) ∙ f in
-    let u2 = sym (filter_map-append (unproved_use site) (step_uses step) rest) ∙ u in
-    let f1 = nil_left (filter_map (fault_of site) (step_uses step)) (filter_map (fault_of site) rest) f2 in
-    let u1 = nil_left (filter_map (unproved_use site) (step_uses step)) (filter_map (unproved_use site) rest) u2 in
+    let f2 = sym (filter_map-append (fault_of scope) (step_uses step) rest) ∙ f in
+    let u2 = sym (filter_map-append (unproved_use scope) (step_uses step) rest) ∙ u in
+    let f1 = nil_left (filter_map (fault_of scope) (step_uses step)) (filter_map (fault_of scope) rest) f2 in
+    let u1 = nil_left (filter_map (unproved_use scope) (step_uses step)) (filter_map (unproved_use scope) rest) u2 in
     let by : List Use = map in_reason (names_of_reason step.reason) in
     let goal_uses : List Use = uses_in_goal (step_of step).goal in
-    let f0 = nil_right (filter_map (fault_of site) goal_uses) (filter_map (fault_of site) by) (sym (filter_map-append (fault_of site) goal_uses by) ∙ f1) in
-    let u0 = sym (unproved_in_step site (step_of step)) ∙ u1 in
-    All-cons (λ (step : StepAst). RestsOnLaws site step.reason) step steps (laws_there site (names_of_reason step.reason) f0 u0)
-    (laws_in_steps site steps (nil_right (filter_map (fault_of site) (step_uses step)) (filter_map (fault_of site) rest) f2)
-    (nil_right (filter_map (unproved_use site) (step_uses step)) (filter_map (unproved_use site) rest) u2))
+    let f0 = nil_right (filter_map (fault_of scope) goal_uses) (filter_map (fault_of scope) by) (sym (filter_map-append (fault_of scope) goal_uses by) ∙ f1) in
+    let u0 = sym (unproved_in_step scope (step_of step)) ∙ u1 in
+    All-cons (λ (step : StepAst). RestsOnLaws scope step.reason) step steps (laws_there scope (names_of_reason step.reason) f0 u0)
+    (laws_in_steps scope steps (nil_right (filter_map (fault_of scope) (step_uses step)) (filter_map (fault_of scope) rest) f2)
+    (nil_right (filter_map (unproved_use scope) (step_uses step)) (filter_map (unproved_use scope) rest) u2))
 
 -- the steps of a rewrite whose names are in order and proved rest on laws
-pub rewrite_laws : (site : Site) (ast : Ast) (name : ℕ) (first : TermAst) (steps items : List StepAst) → ast ≡ RewriteDecl name first steps → items ≡ steps
-    → first_fault site (statement_of ast) ≡ None → first_unproved site (statement_of ast) ≡ None → All (λ (step : StepAst). RestsOnLaws site step.reason) items
-rewrite_laws site ast name first steps items is same f u =
+pub rewrite_laws : (scope : Scope) (ast : Ast) (name : ℕ) (first : TermAst) (steps items : List StepAst) → ast ≡ RewriteDecl name first steps → items ≡ steps
+    → first_fault scope (statement_of ast) ≡ None → first_unproved scope (statement_of ast) ≡ None → All (λ (step : StepAst). RestsOnLaws scope step.reason) items
+rewrite_laws scope ast name first steps items is same f u =
     let tail : List Use = flat_map uses_in_step (map step_of steps) in
-    let f1 : filter_map (fault_of site) (uses_in (tree_of first) ++ tail) ≡ [] = none_first _ (ap is_some (ap (λ a. first_fault site (statement_of a)) (sym is) ∙ f)) in
-    let u1 : filter_map (unproved_use site) (uses_in (tree_of first) ++ tail) ≡ [] = none_first _ (ap is_some (ap (λ a. first_unproved site (statement_of a)) (sym is) ∙ u)) in
-    let f2 = nil_right (filter_map (fault_of site) (uses_in (tree_of first))) (filter_map (fault_of site) tail) (sym (filter_map-append (fault_of site) (uses_in (tree_of first)) tail) ∙ f1) in
-    let u2 = sym (unproved_of_rewrite site (tree_of first) tail) ∙ u1 in
-    subst (λ (xs : List StepAst). All (λ (step : StepAst). RestsOnLaws site step.reason) xs) (sym same) (laws_in_steps site steps f2 u2)
+    let f1 : filter_map (fault_of scope) (uses_in (tree_of first) ++ tail) ≡ [] = none_first _ (ap is_some (ap (λ a. first_fault scope (statement_of a)) (sym is) ∙ f)) in
+    let u1 : filter_map (unproved_use scope) (uses_in (tree_of first) ++ tail) ≡ [] = none_first _ (ap is_some (ap (λ a. first_unproved scope (statement_of a)) (sym is) ∙ u)) in
+    let f2 = nil_right (filter_map (fault_of scope) (uses_in (tree_of first))) (filter_map (fault_of scope) tail) (sym (filter_map-append (fault_of scope) (uses_in (tree_of first)) tail) ∙ f1) in
+    let u2 = sym (unproved_of_rewrite scope (tree_of first) tail) ∙ u1 in
+    subst (λ (xs : List StepAst). All (λ (step : StepAst). RestsOnLaws scope step.reason) xs) (sym same) (laws_in_steps scope steps f2 u2)

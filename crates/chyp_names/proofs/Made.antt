@@ -2,15 +2,14 @@
 use Rattle.std.proofs.Common.{◌≡◌, ℕ, ◌+◌, ◌<◌, ◌≤◌, List, [], ◌∷◌, ◌++◌, map, length, take, drop, slice_index_or, All, Option, None, Some, refl, sym, ap, subst, ◌∙◌, Bool, true, false, ◌&&◌, true≢false, is_some, unwrap_or, cond, ◌==◌, append_assoc}
 use Rattle.std.specs.Str.{IsUtf8}
 use Rattle.std.proofs.lemmas.List.Elements.{All-head, All-tail}
-use Rattle.chyp_lex.specs.declared.token.Token.{Token}
 use Rattle.chyp_lex.specs.declared.token.TokenKind.{TokenKind}
 use Rattle.chyp_lex.specs.declared.token.TokenKind.TheVariants.{Ident, WordGen, WordLet, WordRule, WordRewrite, WordImport, WordShow}
-use Rattle.chyp_lex.specs.Tokens.{token_text}
 use Rattle.chyp_syntax.specs.declared.statement.Ast.{Ast}
 use Rattle.chyp_syntax.specs.declared.statement.Ast.TheVariants.{GenDecl, RuleDecl, RewriteDecl}
 use Rattle.chyp_syntax.specs.declared.step.StepAst.{StepAst}
 use Rattle.chyp_syntax.specs.declared.term.TermAst.{TermAst}
-use Rattle.chyp_syntax.specs.Heading.{declares, is_identifier, declared_name, text_at}
+use Rattle.chyp_syntax.specs.Heading.{declares, is_identifier, declared_name}
+use Rattle.chyp_syntax.specs.Words.{Word, bytes_at}
 use Rattle.chyp_syntax.specs.Numbered.{NumberedToken, kind_of}
 use Rattle.chyp_syntax.specs.Sentence.{IsStatement, IsSentence, is_gen, is_let, is_rule, is_rewrite, is_import, is_import_as, is_show}
 use Rattle.chyp_syntax.specs.Statement.{StatementTree, generator, definition, rule, rewrite, inclusion, showing, statement_of}
@@ -18,12 +17,11 @@ use Rattle.chyp_syntax.specs.Term.{tree_of}
 use Rattle.chyp_base.specs.declared.sort.Sort.{Sort}
 use Rattle.chyp_term.specs.Limits.{IsWithinLimits}
 use Rattle.chyp_term.specs.Morphism.{Morphism, generator as a_generator}
-use Rattle.chyp_env.specs.declared.chunk_view.ChunkView.{ChunkView}
-use Rattle.chyp_env.specs.ChunkView.{IsLent}
-use Rattle.chyp_env.specs.Site.{Site}
+use Rattle.chyp_env.specs.ChunkView.{AreSpelled}
+use Rattle.chyp_env.specs.Scope.{Scope}
 use Rattle.chyp_env.specs.declared.sizes.Sizes.{Sizes}
 use Rattle.chyp_env.specs.Sizes.{AreSizes}
-use Rattle.chyp_names.specs.Elaboration.{expansion_at, generator_name, terms_of}
+use Rattle.chyp_names.specs.Elaboration.{expansion_at, generator_name, terms_in}
 use Rattle.chyp_names.specs.Goals.{goal_terms}
 use Rattle.chyp_names.specs.Limits.{AreWithinLimits}
 use Rattle.chyp_names.proofs.Goals.{all_front, all_behind, take_more, take_whole, goal_terms-append}
@@ -54,7 +52,7 @@ begins_as (is_import_as w n a p) = w
 begins_as (is_show w n) = w
 
 -- the keyword of a sentence
-pub sentence_keyword : (first : Token) (rest : List Token) (tree : StatementTree) → IsSentence (first ∷ rest) tree → first.kind ≡ keyword_for tree
+pub sentence_keyword : (first : Word) (rest : List Word) (tree : StatementTree) → IsSentence (first ∷ rest) tree → first.kind ≡ keyword_for tree
 sentence_keyword first [] (generator name dom cod) s = absurd (begins_as s.statement)
 sentence_keyword first (second ∷ rest) (generator name dom cod) s = (begins_as s.statement).0
 sentence_keyword first rest (definition name tree) s = begins_as s.statement
@@ -64,19 +62,17 @@ sentence_keyword first rest (inclusion imported prefix) s = begins_as s.statemen
 sentence_keyword first rest (showing name) s = begins_as s.statement
 
 -- the name of a generator is UTF-8
-generator_spelled : (text : List ℕ) (tokens : List Token) (name dom cod : ℕ) → All (λ (token : Token). token.kind ≡ Ident → IsUtf8 (token_text text token)) tokens
-    → IsSentence tokens (generator name dom cod) → IsUtf8 (text_at text tokens name)
-generator_spelled text [] name dom cod spelled s = absurd (begins_as s.statement)
-generator_spelled text (first ∷ []) name dom cod spelled s = absurd (begins_as s.statement)
-generator_spelled text (first ∷ second ∷ rest) name dom cod spelled s =
+generator_spelled : (words : List Word) (name dom cod : ℕ) → AreSpelled words → IsSentence words (generator name dom cod) → IsUtf8 (bytes_at words name)
+generator_spelled [] name dom cod spelled s = absurd (begins_as s.statement)
+generator_spelled (first ∷ []) name dom cod spelled s = absurd (begins_as s.statement)
+generator_spelled (first ∷ second ∷ rest) name dom cod spelled s =
     let begins = begins_as s.statement in
-    let P : Token → Type 0 = λ token. token.kind ≡ Ident → IsUtf8 (token_text text token) in
-    subst (λ n. IsUtf8 (text_at text (first ∷ second ∷ rest) n)) begins.1 (All-head P second rest (All-tail P first (second ∷ rest) spelled) begins.2)
+    let P : Word → Type 0 = λ word. word.kind ≡ Ident → IsUtf8 word.bytes in
+    subst (λ n. IsUtf8 (bytes_at (first ∷ second ∷ rest) n)) begins.1 (All-head P second rest (All-tail P first (second ∷ rest) spelled) begins.2)
 
-pub name_spelled : (chunk : ChunkView) (ast : Ast) (name dom cod : ℕ) → IsLent chunk → ast ≡ GenDecl name dom cod → IsSentence chunk.tokens.now (statement_of ast)
-    → IsUtf8 (text_at chunk.first.now chunk.tokens.now name)
-name_spelled chunk ast name dom cod lent is s =
-    generator_spelled chunk.first.now chunk.tokens.now name dom cod lent.spelled (subst (λ a. IsSentence chunk.tokens.now (statement_of a)) is s)
+pub name_spelled : (words : List Word) (ast : Ast) (name dom cod : ℕ) → AreSpelled words → ast ≡ GenDecl name dom cod → IsSentence words (statement_of ast)
+    → IsUtf8 (bytes_at words name)
+name_spelled words ast name dom cod spelled is s = generator_spelled words name dom cod spelled (subst (λ a. IsSentence words (statement_of a)) is s)
 
 -- a declared name is UTF-8
 both_true : (a b : Bool) → a && b ≡ true → b ≡ true
@@ -87,17 +83,17 @@ identifier_kind : (kind : TokenKind) → is_identifier kind ≡ true → kind �
 identifier_kind Ident e = refl
 identifier_kind _ e = absurd (true≢false (sym e))
 
-pub declared_spelled : (chunk : ChunkView) (name : List ℕ) → IsLent chunk → declared_name chunk.first.now chunk.tokens.now ≡ Some name → IsUtf8 name
-declared_spelled chunk name lent = go chunk.tokens.now lent.spelled
+pub declared_spelled : (words : List Word) (name : List ℕ) → AreSpelled words → declared_name words ≡ Some name → IsUtf8 name
+declared_spelled all name spells = go all spells
   where
-    P : Token → Type 0
-    P token = token.kind ≡ Ident → IsUtf8 (token_text chunk.first.now token)
+    P : Word → Type 0
+    P word = word.kind ≡ Ident → IsUtf8 word.bytes
 
-    tell : (b : Bool) (token : Token) → P token → (b ≡ true → token.kind ≡ Ident) → (cond b (Some (token_text chunk.first.now token)) None) ≡ Some name → IsUtf8 name
-    tell true token spelled kind e = subst IsUtf8 (ap (λ o. unwrap_or o []) e) (spelled (kind refl))
-    tell false token spelled kind e = absurd (true≢false (sym (ap is_some e)))
+    tell : (b : Bool) (word : Word) → P word → (b ≡ true → word.kind ≡ Ident) → (cond b (Some word.bytes) None) ≡ Some name → IsUtf8 name
+    tell true word spelled kind e = subst IsUtf8 (ap (λ o. unwrap_or o []) e) (spelled (kind refl))
+    tell false word spelled kind e = absurd (true≢false (sym (ap is_some e)))
 
-    go : (tokens : List Token) → All P tokens → declared_name chunk.first.now tokens ≡ Some name → IsUtf8 name
+    go : (words : List Word) → AreSpelled words → declared_name words ≡ Some name → IsUtf8 name
     go [] spelled e = absurd (true≢false (sym (ap is_some e)))
     go (first ∷ []) spelled e = absurd (true≢false (sym (ap is_some e)))
     go (first ∷ second ∷ rest) spelled e =
@@ -105,48 +101,48 @@ declared_spelled chunk name lent = go chunk.tokens.now lent.spelled
         (λ t. identifier_kind second.kind (both_true (declares first.kind) (is_identifier second.kind) t)) e
 
 -- the terms of a statement within the limits are so
-each_small : (site : Site) (ast tree : Ast) → ast ≡ tree → AreWithinLimits (statement_of ast) (terms_of site (statement_of ast))
-    → All IsWithinLimits (terms_of site (statement_of tree))
-each_small site ast tree is small = subst (λ a. All IsWithinLimits (terms_of site (statement_of a))) is small.each
+each_small : (home : List ℕ) (scope : Scope) (ast tree : Ast) → ast ≡ tree → AreWithinLimits (statement_of ast) (terms_in home scope (statement_of ast))
+    → All IsWithinLimits (terms_in home scope (statement_of tree))
+each_small home scope ast tree is small = subst (λ a. All IsWithinLimits (terms_in home scope (statement_of a))) is small.each
 
-module _ (site : Site) (ast : Ast) (name : ℕ) (left : TermAst) (equals : ℕ) (right : TermAst) (is : ast ≡ RuleDecl name left equals right)
-    (small : AreWithinLimits (statement_of ast) (terms_of site (statement_of ast))) where
-  sides : All IsWithinLimits (expansion_at site (tree_of left) ∷ expansion_at site (tree_of right) ∷ [])
-  sides = each_small site ast (RuleDecl name left equals right) is small
+module _ (home : List ℕ) (scope : Scope) (ast : Ast) (name : ℕ) (left : TermAst) (equals : ℕ) (right : TermAst) (is : ast ≡ RuleDecl name left equals right)
+    (small : AreWithinLimits (statement_of ast) (terms_in home scope (statement_of ast))) where
+  sides : All IsWithinLimits (expansion_at scope (tree_of left) ∷ expansion_at scope (tree_of right) ∷ [])
+  sides = each_small home scope ast (RuleDecl name left equals right) is small
 
-  pub right_small : IsWithinLimits (expansion_at site (tree_of right))
+  pub right_small : IsWithinLimits (expansion_at scope (tree_of right))
   right_small =
-      All-head IsWithinLimits (expansion_at site (tree_of right)) []
-      (All-tail IsWithinLimits (expansion_at site (tree_of left)) (expansion_at site (tree_of right) ∷ []) sides)
+      All-head IsWithinLimits (expansion_at scope (tree_of right)) []
+      (All-tail IsWithinLimits (expansion_at scope (tree_of left)) (expansion_at scope (tree_of right) ∷ []) sides)
 
-module _ (site : Site) (ast : Ast) (name : ℕ) (first : TermAst) (steps : List StepAst) (is : ast ≡ RewriteDecl name first steps)
-    (small : AreWithinLimits (statement_of ast) (terms_of site (statement_of ast))) where
-  all_small : All IsWithinLimits (expansion_at site (tree_of first) ∷ goal_terms site steps)
-  all_small = each_small site ast (RewriteDecl name first steps) is small
+module _ (home : List ℕ) (scope : Scope) (ast : Ast) (name : ℕ) (first : TermAst) (steps : List StepAst) (is : ast ≡ RewriteDecl name first steps)
+    (small : AreWithinLimits (statement_of ast) (terms_in home scope (statement_of ast))) where
+  all_small : All IsWithinLimits (expansion_at scope (tree_of first) ∷ goal_terms scope steps)
+  all_small = each_small home scope ast (RewriteDecl name first steps) is small
 
-  pub goals_small : (items : List StepAst) → items ≡ steps → All IsWithinLimits (goal_terms site items)
+  pub goals_small : (items : List StepAst) → items ≡ steps → All IsWithinLimits (goal_terms scope items)
   goals_small items same =
-      subst (λ xs. All IsWithinLimits (goal_terms site xs)) (sym same) (All-tail IsWithinLimits (expansion_at site (tree_of first)) (goal_terms site steps) all_small)
+      subst (λ xs. All IsWithinLimits (goal_terms scope xs)) (sym same) (All-tail IsWithinLimits (expansion_at scope (tree_of first)) (goal_terms scope steps) all_small)
 
 -- so is the goal of each step
-pub goal_small : (site : Site) (steps : List StepAst) (k : ℕ) (step : StepAst) → k < length steps → step ≡ slice_index_or steps k step
-    → All IsWithinLimits (goal_terms site steps) → All IsWithinLimits (goal_terms site (step ∷ []))
-goal_small site steps k step within is small =
-    all_behind IsWithinLimits (goal_terms site (take k steps)) (goal_terms site (step ∷ []))
-    (subst (All IsWithinLimits) (goal_terms-append site (take k steps) (step ∷ []))
-    (all_front IsWithinLimits (goal_terms site (take k steps ++ step ∷ [])) (goal_terms site (drop (k + 1) steps))
-    (subst (All IsWithinLimits) (ap (goal_terms site) (sym (take_whole steps k step within is)) ∙ goal_terms-append site (take k steps ++ step ∷ []) (drop (k + 1) steps)) small)))
+pub goal_small : (scope : Scope) (steps : List StepAst) (k : ℕ) (step : StepAst) → k < length steps → step ≡ slice_index_or steps k step
+    → All IsWithinLimits (goal_terms scope steps) → All IsWithinLimits (goal_terms scope (step ∷ []))
+goal_small scope steps k step within is small =
+    all_behind IsWithinLimits (goal_terms scope (take k steps)) (goal_terms scope (step ∷ []))
+    (subst (All IsWithinLimits) (goal_terms-append scope (take k steps) (step ∷ []))
+    (all_front IsWithinLimits (goal_terms scope (take k steps ++ step ∷ [])) (goal_terms scope (drop (k + 1) steps))
+    (subst (All IsWithinLimits) (ap (goal_terms scope) (sym (take_whole steps k step within is)) ∙ goal_terms-append scope (take k steps ++ step ∷ []) (drop (k + 1) steps)) small)))
 
 -- the measures of a generator are those of its type
 pub generator_sizes : (sizes : Sizes) (name : List ℕ) (a b c d : List Sort) → a ≡ c → b ≡ d → AreSizes sizes (a_generator name a b) → AreSizes sizes (a_generator name c d)
 generator_sizes sizes name a b c d doms cods h = subst (λ (x : List Sort). AreSizes sizes (a_generator name x d)) doms (subst (λ (x : List Sort). AreSizes sizes (a_generator name a x)) cods h)
 
 -- the terms of a list that grows by the goal of a step
-pub goals_more : (site : Site) (first : Morphism) (terms all : List Morphism) (steps : List StepAst) (k : ℕ) (step : StepAst) → k < length steps → step ≡ slice_index_or steps k step
-    → terms ≡ first ∷ goal_terms site (take k steps) → all ≡ terms ++ goal_terms site (step ∷ []) → all ≡ first ∷ goal_terms site (take (k + 1) steps)
-goals_more site first terms all steps k step within is so_far next =
-    next ∙ ap (λ ts. ts ++ goal_terms site (step ∷ [])) so_far
-    ∙ ap (λ ts. first ∷ ts) (sym (goal_terms-append site (take k steps) (step ∷ [])) ∙ ap (goal_terms site) (sym (take_more steps k step within is)))
+pub goals_more : (scope : Scope) (first : Morphism) (terms all : List Morphism) (steps : List StepAst) (k : ℕ) (step : StepAst) → k < length steps → step ≡ slice_index_or steps k step
+    → terms ≡ first ∷ goal_terms scope (take k steps) → all ≡ terms ++ goal_terms scope (step ∷ []) → all ≡ first ∷ goal_terms scope (take (k + 1) steps)
+goals_more scope first terms all steps k step within is so_far next =
+    next ∙ ap (λ ts. ts ++ goal_terms scope (step ∷ [])) so_far
+    ∙ ap (λ ts. first ∷ ts) (sym (goal_terms-append scope (take k steps) (step ∷ [])) ∙ ap (goal_terms scope) (sym (take_more steps k step within is)))
 
 -- the name of a generator in a module
 pub in_module : (home name : List ℕ) → false ≡ (length home == 0) → home ++ 47 ∷ name ≡ generator_name home name

@@ -1,9 +1,8 @@
 -- What refuses a statement.
-use Rattle.std.proofs.Common.{◌≡◌, ℕ, true, false, List, [], ◌∷◌, map, Option, None, Some, IfSome, refl, sym, ap, ap₂, ◌∙◌, ◌||◌}
+use Rattle.std.proofs.Common.{Bor, subst, ◌≡◌, ℕ, true, false, List, [], ◌∷◌, map, Option, None, Some, IfSome, refl, sym, ap, ap₂, ◌∙◌, ◌||◌}
 use Rattle.std.specs.Prelude.{is_none, option_map}
 use Rattle.std.specs.List.{list_any}
 use Rattle.chyp_base.specs.declared.verdict.Verdict.{Verdict}
-use Rattle.chyp_base.specs.declared.verdict.Verdict.TheVariants.{NotBuilt}
 use Rattle.std.proofs.lemmas.Bool.{false≢true}
 use Rattle.chyp_syntax.specs.declared.statement.Ast.{Ast}
 use Rattle.chyp_syntax.specs.declared.statement.Ast.TheVariants.{RewriteDecl}
@@ -12,12 +11,21 @@ use Rattle.chyp_syntax.specs.declared.term.TermAst.{TermAst}
 use Rattle.chyp_syntax.specs.Statement.{StatementTree, generator, definition, rule, rewrite, inclusion, showing, statement_of}
 use Rattle.chyp_syntax.specs.Step.{step_of}
 use Rattle.chyp_syntax.specs.Term.{tree_of}
-use Rattle.chyp_env.specs.Site.{Site, is_declared, nothing}
-use Rattle.chyp_names.specs.Elaboration.{IsRefused, is_import, import_fault, has_hole, at_name}
+use Rattle.chyp_base.specs.declared.verdict.Verdict.TheVariants.{NotBuilt, NoModule, Cycle}
+use Rattle.chyp_env.specs.declared.import_state.ImportState.{ImportState}
+use Rattle.chyp_env.specs.declared.import_state.ImportState.TheVariants.{NotImport, Absent, OnCycle, Module}
+use Rattle.chyp_env.specs.Environment.{Binding}
+use Rattle.chyp_env.specs.ImportState.{IsNotThere, imported_of}
+use Rattle.chyp_env.specs.Scope.{is_declared}
+use Rattle.chyp_env.specs.Site.{Site}
+use Rattle.chyp_names.specs.Elaboration.{IsRefused, is_import, import_fault, fault_of_module, prefix_at, has_hole, at_name, mistyped, unproved, terms_of}
+use Rattle.chyp_names.specs.Limits.{AreWithinLimits}
+use Rattle.chyp_names.specs.Refusal.{IsRefusedByTerms}
+use Rattle.chyp_names.specs.Refusal as here
 use Rattle.chyp_names.specs.Naming.{first_fault}
 
 -- a fault of names refuses the statement
-pub refused_at_name : (site : Site) (tree : StatementTree) (result : Option Verdict) → is_declared site ≡ false → import_fault site tree ≡ None → result ≡ first_fault site tree
+pub refused_at_name : (site : Site) (tree : StatementTree) (result : Option Verdict) → is_declared site.scope ≡ false → import_fault site tree ≡ None → result ≡ first_fault site.scope tree
     → IfSome result (IsRefused site tree)
 refused_at_name site tree None fresh fits is = tt
 refused_at_name site tree (Some verdict) fresh fits is = at_name fresh fits (sym is)
@@ -36,14 +44,32 @@ pub hole_of_rewrite : (ast : Ast) (name : ℕ) (first : TermAst) (steps items : 
 hole_of_rewrite ast name first steps items is same =
     ap (list_any (λ (step : StepAst). is_none step.goal)) same ∙ sym (holes steps) ∙ ap (λ a. has_hole (statement_of a)) (sym is)
 
--- an import of which nothing is known isn't built
-pub import-not_built : (site : Site) (tree : StatementTree) → site.imported ≡ nothing → is_import tree ≡ true → import_fault site tree ≡ Some NotBuilt
-import-not_built site (inclusion imported prefix) e i = rw e refl
-import-not_built site (generator name dom cod) e i = absurd (false≢true i)
-import-not_built site (definition name tree) e i = absurd (false≢true i)
-import-not_built site (rule name left equals right) e i = absurd (false≢true i)
-import-not_built site (rewrite name first steps) e i = absurd (false≢true i)
-import-not_built site (showing name) e i = absurd (false≢true i)
+-- what is wrong with an import in each of the states in which its module isn't there
+pub at_not_import : (state : ImportState) → state ≡ NotImport → (env : List Binding) (prefix : Option (List ℕ)) → fault_of_module env (imported_of state) prefix ≡ Some NotBuilt
+unfolding imported_of
+at_not_import state is env prefix = rw is refl
+
+pub at_absent : (state : ImportState) → state ≡ Absent → (env : List Binding) (prefix : Option (List ℕ)) → fault_of_module env (imported_of state) prefix ≡ Some (NoModule 1)
+unfolding imported_of
+at_absent state is env prefix = rw is refl
+
+pub at_cycle : (state : ImportState) → state ≡ OnCycle → (env : List Binding) (prefix : Option (List ℕ)) → fault_of_module env (imported_of state) prefix ≡ Some (Cycle 1)
+unfolding imported_of
+at_cycle state is env prefix = rw is refl
+
+pub no_module : (state : ImportState) (env : Bor (List Binding)) → state ≡ Module env → IsNotThere (imported_of state) → ⊥
+unfolding imported_of
+no_module state env is none = subst (λ s. IsNotThere (imported_of s)) is none
+
+-- an import is refused for the state of its module
+pub import-refused : (site : Site) (tree : StatementTree) (verdict : Verdict) → ((env : List Binding) (prefix : Option (List ℕ)) → fault_of_module env site.imported prefix ≡ Some verdict)
+    → is_import tree ≡ true → import_fault site tree ≡ Some verdict
+import-refused site (inclusion imported prefix) verdict e i = e site.scope.env (prefix_at site.scope prefix)
+import-refused site (generator name dom cod) verdict e i = absurd (false≢true i)
+import-refused site (definition name tree) verdict e i = absurd (false≢true i)
+import-refused site (rule name left equals right) verdict e i = absurd (false≢true i)
+import-refused site (rewrite name first steps) verdict e i = absurd (false≢true i)
+import-refused site (showing name) verdict e i = absurd (false≢true i)
 
 -- what is no import is in order as one
 pub import-in_order : (site : Site) (tree : StatementTree) → is_import tree ≡ false → import_fault site tree ≡ None
@@ -53,3 +79,9 @@ import-in_order site (definition name tree) i = refl
 import-in_order site (rule name left equals right) i = refl
 import-in_order site (rewrite name first steps) i = refl
 import-in_order site (showing name) i = refl
+
+-- what refuses a statement by its terms refuses it where it stands
+pub refused_by_terms : (site : Site) (tree : StatementTree) (verdict : Verdict) → is_declared site.scope ≡ false → import_fault site tree ≡ None
+    → first_fault site.scope tree ≡ None → AreWithinLimits tree (terms_of site tree) → IsRefusedByTerms site.scope tree verdict → IsRefused site tree verdict
+refused_by_terms site tree verdict fresh fits known small (here.mistyped fails) = mistyped fresh fits known small fails
+refused_by_terms site tree verdict fresh fits known small (here.unproved hold is) = unproved fresh fits known small hold is

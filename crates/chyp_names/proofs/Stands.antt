@@ -5,26 +5,24 @@ use Rattle.std.proofs.lemmas.List.{length-replicate}
 use Rattle.chyp_base.specs.declared.verdict.Verdict.{Verdict}
 use Rattle.chyp_base.specs.declared.verdict.Verdict.TheVariants.{Accepted, Proved}
 use Rattle.chyp_base.specs.Sort.{plain}
-use Rattle.chyp_lex.specs.declared.token.Token.{Token}
 use Rattle.chyp_lex.specs.declared.token.TokenKind.{TokenKind}
 use Rattle.chyp_lex.specs.declared.token.TokenKind.TheVariants.{WordGen, WordRewrite}
-use Rattle.chyp_lex.specs.Tokens.{token_text}
 use Rattle.chyp_syntax.specs.Heading.{declares, is_identifier, declared_name}
 use Rattle.chyp_syntax.specs.Sentence.{IsSentence}
 use Rattle.chyp_syntax.specs.Statement.{StatementTree, generator as a_gen, definition, rule, rewrite, inclusion, showing}
 use Rattle.chyp_term.specs.Derivation.{empty, IsEquation}
 use Rattle.chyp_term.specs.Morphism.{Morphism}
-use Rattle.chyp_env.specs.declared.chunk_view.ChunkView.{ChunkView}
-use Rattle.chyp_env.specs.ChunkView.{site_of}
 use Rattle.chyp_env.specs.Environment.{Sense, Binding, binding_of, is_bound}
 use Rattle.chyp_env.specs.Expansion.{plain_wires}
 use Rattle.chyp_term.specs.Limits.{most_ports}
-use Rattle.chyp_env.specs.Site.{nothing as none', Site}
+use Rattle.chyp_env.specs.Site.{Imported, there, Site}
+use Rattle.chyp_env.specs.ImportState.{IsNotThere}
+use Rattle.chyp_syntax.specs.Words.{Word, keyword_in}
 use Rattle.chyp_env.specs.Sound.{IsSoundSense}
 use Rattle.chyp_names.specs.declared.body.Body.{Body}
-use Rattle.chyp_names.specs.Binding.{Binds, anew, IsRewrite, StandsFor, a_declared_generator, a_term, a_rule, a_proved_rewrite, an_unproved_rewrite, a_broken_statement, Elaborates, IsOutcome}
+use Rattle.chyp_names.specs.Binding.{Binds, TakesIn, anew, IsRewrite, StandsFor, a_declared_generator, a_term, a_rule, a_proved_rewrite, an_unproved_rewrite, a_broken_statement, Elaborates, IsOutcome}
 use Rattle.chyp_names.specs.Elaboration.{terms_of, Passes}
-use Rattle.chyp_names.specs.Outcome.{keyword_in, terms_in, refused_sense, sense_for, HasTermsFor}
+use Rattle.chyp_names.specs.Outcome.{terms_in, refused_sense, sense_for, HasTermsFor}
 use Rattle.chyp_names.specs.Typing.{AreTypedAlike}
 use Rattle.chyp_names.proofs.Made.{keyword_for, sentence_keyword}
 
@@ -46,7 +44,7 @@ is_gen_word _ = false
 few : (n : ℕ) → n ≤ most_ports → length (plain_wires n) ≤ most_ports
 few n h = subst (λ k. k ≤ most_ports) (sym (length-replicate n plain)) h
 
-accepted_fit : (site : Site) (tree : StatementTree) → declares (keyword_for tree) ≡ true → (keyword_for tree ≡ WordRewrite → ⊥) → IsSentence site.tokens tree → Passes site tree
+accepted_fit : (site : Site) (tree : StatementTree) → declares (keyword_for tree) ≡ true → (keyword_for tree ≡ WordRewrite → ⊥) → IsSentence site.scope.words tree → Passes site tree
     → IsFit site Accepted (Some (keyword_for tree)) (terms_of site tree)
 accepted_fit site (a_gen name dom cod) declares other s p = record {
   has = (omega arith, λ _. tt);
@@ -71,7 +69,7 @@ abbrev is_rewrite_word : TokenKind → Bool
 is_rewrite_word WordRewrite = true
 is_rewrite_word _ = false
 
-proved_fit : (site : Site) (tree : StatementTree) → keyword_for tree ≡ WordRewrite → IsSentence site.tokens tree → Passes site tree
+proved_fit : (site : Site) (tree : StatementTree) → keyword_for tree ≡ WordRewrite → IsSentence site.scope.words tree → Passes site tree
     → IsFit site Proved (Some (keyword_for tree)) (terms_of site tree)
 proved_fit site (rewrite name first steps) k s p =
     let terms : List Morphism = terms_of site (rewrite name first steps) in
@@ -89,11 +87,12 @@ proved_fit site (inclusion imported prefix) k s p = absurd (true≢false (sym (a
 proved_fit site (showing name) k s p = absurd (true≢false (sym (ap is_rewrite_word k)))
 
 -- what a statement stands for that is neither accepted nor proved
-refused_stands : (home text : List ℕ) (env : List Binding) (first : Token) (rest : List Token) (verdict : Verdict) → (verdict ≡ Accepted → ⊥) → (verdict ≡ Proved → ⊥)
-    → StandsFor (record { home = home; text = text; env = env; tokens = first ∷ rest; imported = none' }) verdict (refused_sense (Some first.kind))
-refused_stands home text env first rest verdict accepted proved = go first.kind refl
+refused_stands : (home : List ℕ) (env : List Binding) (imported : Imported) (first : Word) (rest : List Word) (verdict : Verdict) → (verdict ≡ Accepted → ⊥) → (verdict ≡ Proved → ⊥)
+    → StandsFor (record { scope = record { words = first ∷ rest; env = env }; home = home; imported = imported }) verdict (refused_sense (Some first.kind))
+refused_stands home env imported first rest verdict accepted proved = go first.kind refl
   where
-    go : (kind : TokenKind) → first.kind ≡ kind → StandsFor (record { home = home; text = text; env = env; tokens = first ∷ rest; imported = none' }) verdict (refused_sense (Some kind))
+    go : (kind : TokenKind) → first.kind ≡ kind
+        → StandsFor (record { scope = record { words = first ∷ rest; env = env }; home = home; imported = imported }) verdict (refused_sense (Some kind))
     go WordRewrite e = an_unproved_rewrite e proved
     go _ e = a_broken_statement (λ r. true≢false (sym (ap is_rewrite_word r) ∙ ap is_rewrite_word e)) accepted
 
@@ -102,25 +101,25 @@ both_first true b e = refl
 both_first false b e = absurd (true≢false (sym e))
 
 -- a statement that declares a name begins with a keyword that does
-abbrev Declares : List Token → Type 0
+abbrev Declares : List Word → Type 0
 Declares [] = ⊥
 Declares (first ∷ rest) = declares first.kind ≡ true
 
-declares_there : (text : List ℕ) (tokens : List Token) (name : List ℕ) → declared_name text tokens ≡ Some name → Declares tokens
-declares_there text [] name e = absurd (true≢false (sym (ap is_some e)))
-declares_there text (first ∷ []) name e = absurd (true≢false (sym (ap is_some e)))
-declares_there text (first ∷ second ∷ rest) name e = both_first (declares first.kind) (is_identifier second.kind) (tell (declares first.kind && is_identifier second.kind) e)
+declares_there : (words : List Word) (name : List ℕ) → declared_name words ≡ Some name → Declares words
+declares_there [] name e = absurd (true≢false (sym (ap is_some e)))
+declares_there (first ∷ []) name e = absurd (true≢false (sym (ap is_some e)))
+declares_there (first ∷ second ∷ rest) name e = both_first (declares first.kind) (is_identifier second.kind) (tell (declares first.kind && is_identifier second.kind) e)
   where
-    tell : (b : Bool) → cond b (Some (token_text text second)) None ≡ Some name → b ≡ true
+    tell : (b : Bool) → cond b (Some second.bytes) None ≡ Some name → b ≡ true
     tell true e = refl
     tell false e = absurd (true≢false (sym (ap is_some e)))
 
-module _ (home text : List ℕ) (env : List Binding) where
-  abbrev site_at : List Token → Site
-  site_at tokens = record { home = home; text = text; env = env; tokens = tokens; imported = none' }
+module _ (home : List ℕ) (env : List Binding) (imported : Imported) where
+  abbrev pub site_at : List Word → Site
+  site_at words = record { scope = record { words = words; env = env }; home = home; imported = imported }
 
-  accepted_body : (tokens : List Token) (body : Body) → Declares tokens → ¬ IsRewrite tokens → Elaborates (site_at tokens) body
-      → IsFit (site_at tokens) Accepted (keyword_in tokens) body.terms
+  accepted_body : (words : List Word) (body : Body) → Declares words → ¬ IsRewrite words → Elaborates (site_at words) body
+      → IsFit (site_at words) Accepted (keyword_in words) body.terms
   accepted_body [] body d other e = absurd d
   accepted_body (first ∷ rest) body d other e =
       let kind = sentence_keyword first rest e.tree e.is_sentence in
@@ -128,7 +127,7 @@ module _ (home text : List ℕ) (env : List Binding) where
       (subst (λ k. IsFit (site_at (first ∷ rest)) Accepted (Some k) (terms_of (site_at (first ∷ rest)) e.tree)) (sym kind)
       (accepted_fit (site_at (first ∷ rest)) e.tree (ap declares (sym kind) ∙ d) (λ r. other (kind ∙ r)) e.is_sentence e.passes))
 
-  proved_body : (tokens : List Token) (body : Body) → IsRewrite tokens → Elaborates (site_at tokens) body → IsFit (site_at tokens) Proved (keyword_in tokens) body.terms
+  proved_body : (words : List Word) (body : Body) → IsRewrite words → Elaborates (site_at words) body → IsFit (site_at words) Proved (keyword_in words) body.terms
   proved_body [] body r e = absurd r
   proved_body (first ∷ rest) body r e =
       let kind = sentence_keyword first rest e.tree e.is_sentence in
@@ -136,9 +135,9 @@ module _ (home text : List ℕ) (env : List Binding) where
       (subst (λ k. IsFit (site_at (first ∷ rest)) Proved (Some k) (terms_of (site_at (first ∷ rest)) e.tree)) (sym kind)
       (proved_fit (site_at (first ∷ rest)) e.tree (sym kind ∙ r) e.is_sentence e.passes))
 
-  refused_fit : (tokens : List Token) (verdict : Verdict) → Declares tokens → (verdict ≡ Accepted → ⊥) → (verdict ≡ Proved → ⊥) → StandsFor (site_at tokens) verdict (refused_sense (keyword_in tokens))
+  refused_fit : (words : List Word) (verdict : Verdict) → Declares words → (verdict ≡ Accepted → ⊥) → (verdict ≡ Proved → ⊥) → StandsFor (site_at words) verdict (refused_sense (keyword_in words))
   refused_fit [] verdict d accepted proved = absurd d
-  refused_fit (first ∷ rest) verdict d accepted proved = refused_stands home text env first rest verdict accepted proved
+  refused_fit (first ∷ rest) verdict d accepted proved = refused_stands home env imported first rest verdict accepted proved
 
   abbrev is_accepted : Verdict → Bool
   is_accepted Accepted = true
@@ -154,16 +153,16 @@ module _ (home text : List ℕ) (env : List Binding) where
   refused_sound (Some _) = tt
 
   -- the outcome of a statement that declares a name says what it stands for
-  pub outcome_fit : (tokens : List Token) (body : Option Body) (verdict : Verdict) (name : List ℕ) → IsOutcome (site_at tokens) body verdict → declared_name text tokens ≡ Some name
-      → IsFit (site_at tokens) verdict (keyword_in tokens) (terms_in body)
-  outcome_fit tokens None Accepted name o declared = absurd (true≢false (sym (o.accepted refl).0))
-  outcome_fit tokens (Some body) Accepted name o declared = accepted_body tokens body (declares_there text tokens name declared) (o.accepted refl).1 o.elaborates
-  outcome_fit tokens None Proved name o declared = absurd (true≢false (sym (o.proved refl).0))
-  outcome_fit tokens (Some body) Proved name o declared = proved_body tokens body (o.proved refl).1 o.elaborates
-  outcome_fit tokens body verdict name o declared = record {
+  pub outcome_fit : (words : List Word) (body : Option Body) (verdict : Verdict) (name : List ℕ) → IsOutcome (site_at words) body verdict → declared_name words ≡ Some name
+      → IsFit (site_at words) verdict (keyword_in words) (terms_in body)
+  outcome_fit words None Accepted name o declared = absurd (true≢false (sym (o.accepted refl).0))
+  outcome_fit words (Some body) Accepted name o declared = accepted_body words body (declares_there words name declared) (o.accepted refl).1 o.elaborates
+  outcome_fit words None Proved name o declared = absurd (true≢false (sym (o.proved refl).0))
+  outcome_fit words (Some body) Proved name o declared = proved_body words body (o.proved refl).1 o.elaborates
+  outcome_fit words body verdict name o declared = record {
     has = tt;
-    stands = refused_fit tokens verdict (declares_there text tokens name declared) (λ e. true≢false (sym (ap is_accepted e))) (λ e. true≢false (sym (ap is_proved e)));
-    sound = λ alike. refused_sound (keyword_in tokens);
+    stands = refused_fit words verdict (declares_there words name declared) (λ e. true≢false (sym (ap is_accepted e))) (λ e. true≢false (sym (ap is_proved e)));
+    sound = λ alike. refused_sound (keyword_in words);
   }
 
 -- the terms of a body that are typed alike, where there is a body
@@ -176,23 +175,28 @@ pub found_bound : (env : List Binding) (name : List ℕ) (entry : Binding) → b
 found_bound env name entry h = ap is_some h
 
 -- what an outcome with this body says of a sense that is that of its terms
-module _ (home : List ℕ) (chunk : ChunkView) (env : List Binding) (body : Option Body) (verdict : Verdict) (name : List ℕ) (outcome : IsOutcome (site_of home chunk env) body verdict)
-    (declared : declared_name chunk.first.now chunk.tokens.now ≡ Some name) where
-  abbrev fit : IsFit (site_of home chunk env) verdict (keyword_in chunk.tokens.now) (terms_in body)
-  fit = outcome_fit home chunk.first.now env chunk.tokens.now body verdict name outcome declared
+module _ (home : List ℕ) (words : List Word) (env : List Binding) (imported : Imported) (body : Option Body) (verdict : Verdict) (name : List ℕ)
+    (outcome : IsOutcome (site_at home env imported words) body verdict) (declared : declared_name words ≡ Some name) where
+  abbrev fit : IsFit (site_at home env imported words) verdict (keyword_in words) (terms_in body)
+  fit = outcome_fit home env imported words body verdict name outcome declared
 
   -- terms are there for it
-  pub has_terms : (keyword : Option TokenKind) (terms : List Morphism) → keyword ≡ keyword_in chunk.tokens.now → terms ≡ terms_in body → HasTermsFor keyword terms verdict
+  pub has_terms : (keyword : Option TokenKind) (terms : List Morphism) → keyword ≡ keyword_in words → terms ≡ terms_in body → HasTermsFor keyword terms verdict
   has_terms keyword terms k t = rw (k, t) fit.has
 
   -- it is sound
-  pub sense_sound : (sense : Sense) (keyword : Option TokenKind) (terms : List Morphism) → keyword ≡ keyword_in chunk.tokens.now → terms ≡ terms_in body
+  pub sense_sound : (sense : Sense) (keyword : Option TokenKind) (terms : List Morphism) → keyword ≡ keyword_in words → terms ≡ terms_in body
       → sense ≡ sense_for keyword terms verdict → IfSome body (λ b. AreTypedAlike b.terms) → IsSoundSense sense
   sense_sound sense keyword terms k t same typed = rw (same, k, t) (fit.sound (terms_alike body typed))
 
   -- the name of the statement is bound to it
-  pub sense_binds : {T E : Type 0} (number : ℕ) (sense : Sense) (keyword : Option TokenKind) (terms : List Morphism) (new : List Binding) (result : Result T E) → keyword ≡ keyword_in chunk.tokens.now
+  pub sense_binds : {T E : Type 0} (number : ℕ) (sense : Sense) (keyword : Option TokenKind) (terms : List Morphism) (new : List Binding) (result : Result T E) → keyword ≡ keyword_in words
       → terms ≡ terms_in body → sense ≡ sense_for keyword terms verdict → is_bound env name ≡ false
-      → OnOk result (new ≡ env ++ record { name = name; origin = (home, number); sense = sense } ∷ []) → OnOk result (Binds (site_of home chunk env) number verdict new)
+      → OnOk result (new ≡ env ++ record { name = name; origin = (home, number); sense = sense } ∷ []) → OnOk result (Binds (site_at home env imported words) number verdict new)
   sense_binds number sense keyword terms new (Ok x) k t same free is = rw (is, same, k, t) (anew declared free fit.stands)
   sense_binds number sense keyword terms new (Err e) k t same free is = tt
+
+-- what isn't there isn't taken in
+pub not_taken : (imported : Imported) (verdict : Verdict) → IsNotThere imported → ¬ TakesIn imported verdict
+not_taken (there env) verdict none = absurd none
+not_taken _ verdict none = λ takes. takes

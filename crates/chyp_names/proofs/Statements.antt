@@ -13,9 +13,10 @@ use Rattle.chyp_syntax.specs.Step.{StepTree}
 use Rattle.chyp_syntax.specs.Term.{TermTree, TermTrees, named, wire, empty, swap, chain, beside, no_terms, term}
 use Rattle.chyp_env.specs.Expansion.{expansion_in, expansions_in}
 use Rattle.chyp_env.specs.Environment.{Binding, binding_of}
-use Rattle.chyp_env.specs.Site.{Site, term_of, meaning_at}
+use Rattle.chyp_env.specs.Scope.{Scope, term_of, meaning_at}
+use Rattle.chyp_env.specs.Site.{Site}
 use Rattle.chyp_names.specs.Elaboration.{expansion_at, terms_of, tests_at}
-use Rattle.chyp_syntax.specs.Heading.{text_at}
+use Rattle.chyp_syntax.specs.Words.{bytes_at}
 use Rattle.chyp_env.specs.Typing.{Test, permutes, meets, agrees, AllHold, tests_of, tests_behind, tests_of_all}
 use Rattle.chyp_env.proofs.Rows.{behind-linked}
 use Rattle.chyp_env.proofs.Holding.{hold-front, hold-behind, hold-head, hold-tail}
@@ -92,21 +93,21 @@ alike-list m ms first typed others e =
     subst (λ (x : Morphism). All (IsEquation x) (m ∷ ms)) same (All-cons (IsEquation m) m ms (equation-same m typed) others)
 
 -- the terms of a statement whose tests hold are typed, and have the type of the first one
-pub statement-alike : (site : Site) → ((k : ℕ) → IsTyped (meaning_at site k)) → (tree : StatementTree) → AllHold (tests_at site tree)
+pub statement-alike : (site : Site) → ((k : ℕ) → IsTyped (meaning_at site.scope k)) → (tree : StatementTree) → AllHold (tests_at site.scope tree)
     → (first : Morphism) → slice_get (terms_of site tree) 0 ≡ Some first → All (IsEquation first) (terms_of site tree)
 statement-alike site typed (generator name dom cod) h first e = alike-list _ [] first tt (All-nil (IsEquation _)) e
 statement-alike site typed (definition name tree) h first e =
-    alike-list (expansion_at site tree) [] first (typed-of-tests (meaning_at site) typed tree h) (All-nil (IsEquation (expansion_at site tree))) e
+    alike-list (expansion_at site.scope tree) [] first (typed-of-tests (meaning_at site.scope) typed tree h) (All-nil (IsEquation (expansion_at site.scope tree))) e
 statement-alike site typed (rule name left equals right) h first e =
-    let meaning = meaning_at site in
-    let m = expansion_at site left in
+    let meaning = meaning_at site.scope in
+    let m = expansion_at site.scope left in
     let front = typed-of-tests meaning typed left (hold-front (tests_of meaning left) (tests_of_other meaning m equals right) h) in
     let behind = hold-behind (tests_of meaning left) (tests_of_other meaning m equals right) h in
-    alike-list m (expansion_at site right ∷ []) first front
-    (All-cons (IsEquation m) (expansion_at site right) [] (other-alike meaning typed m front equals right behind) (All-nil (IsEquation m))) e
+    alike-list m (expansion_at site.scope right ∷ []) first front
+    (All-cons (IsEquation m) (expansion_at site.scope right) [] (other-alike meaning typed m front equals right behind) (All-nil (IsEquation m))) e
 statement-alike site typed (rewrite name tree steps) h first e =
-    let meaning = meaning_at site in
-    let m = expansion_at site tree in
+    let meaning = meaning_at site.scope in
+    let m = expansion_at site.scope tree in
     let front = typed-of-tests meaning typed tree (hold-front (tests_of meaning tree) (tests_of_steps meaning m steps) h) in
     alike-list m _ first front (steps-alike meaning typed m front steps (hold-behind (tests_of meaning tree) (tests_of_steps meaning m steps) h)) e
 statement-alike site typed (inclusion imported prefix) h first e = All-nil (IsEquation first)
@@ -122,15 +123,15 @@ alike-each first terms h = λ k d k-in j e j-in. record {
 }
 
 -- a name stands for a typed term, where all that are bound do
-pub meaning-typed : (site : Site) → All (λ binding. IsTyped (term_of binding.sense)) site.env → (token : ℕ) → IsTyped (meaning_at site token)
-meaning-typed site typed token = go site.env typed
+pub meaning-typed : (scope : Scope) → All (λ binding. IsTyped (term_of binding.sense)) scope.env → (token : ℕ) → IsTyped (meaning_at scope token)
+meaning-typed scope typed token = go scope.env typed
   where
     go : (env : List Binding) → All (λ binding. IsTyped (term_of binding.sense)) env
-        → IsTyped (option_map_or (λ binding. term_of binding.sense) (binding_of env (text_at site.text site.tokens token)) nothing)
+        → IsTyped (option_map_or (λ binding. term_of binding.sense) (binding_of env (bytes_at scope.words token)) nothing)
     go [] h = no_place
-    go (binding ∷ env) h = elim (bytes_eq (text_at site.text site.tokens token) binding.name)
+    go (binding ∷ env) h = elim (bytes_eq (bytes_at scope.words token) binding.name)
         as (λ same. IsTyped (option_map_or (λ binding. term_of binding.sense)
-        (cond same (Some binding) (binding_of env (text_at site.text site.tokens token))) nothing)) [
+        (cond same (Some binding) (binding_of env (bytes_at scope.words token))) nothing)) [
           | true ↦ All-head (λ binding. IsTyped (term_of binding.sense)) binding env h
           | false ↦ go env (All-tail (λ binding. IsTyped (term_of binding.sense)) binding env h)
         ]

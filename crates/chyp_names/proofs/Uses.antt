@@ -15,7 +15,7 @@ use Rattle.chyp_names.specs.Faults.{first_unproved_among}
 use Rattle.chyp_syntax.specs.Statement.{statement_of}
 use Rattle.chyp_syntax.specs.declared.statement.Ast.{Ast}
 use Rattle.chyp_syntax.specs.declared.statement.Ast.TheVariants.{GenDecl, LetDecl, RuleDecl, RewriteDecl, ImportDecl, ShowDecl}
-use Rattle.chyp_env.specs.Site.{Site}
+use Rattle.chyp_env.specs.Scope.{Scope}
 
 -- the names of a part
 abbrev pub part_uses : TermAst → List Use
@@ -61,24 +61,24 @@ uses_of_steps [] = refl
 uses_of_steps (step ∷ steps) = ap (λ us. step_uses step ++ us) (uses_of_steps steps)
 
 -- no name of a term rests on a rewrite
-pub unproved_in_tree : (site : Site) (names : List ℕ) → filter_map (unproved_use site) (map in_term names) ≡ []
-unproved_in_tree site [] = refl
-unproved_in_tree site (name ∷ names) = unproved_in_tree site names
+pub unproved_in_tree : (scope : Scope) (names : List ℕ) → filter_map (unproved_use scope) (map in_term names) ≡ []
+unproved_in_tree scope [] = refl
+unproved_in_tree scope (name ∷ names) = unproved_in_tree scope names
 
-pub unproved_in_goal : (site : Site) (goal : Option TermTree) → filter_map (unproved_use site) (uses_in_goal goal) ≡ []
-unproved_in_goal site None = refl
-unproved_in_goal site (Some tree) = unproved_in_tree site (names_in tree)
+pub unproved_in_goal : (scope : Scope) (goal : Option TermTree) → filter_map (unproved_use scope) (uses_in_goal goal) ≡ []
+unproved_in_goal scope None = refl
+unproved_in_goal scope (Some tree) = unproved_in_tree scope (names_in tree)
 
-pub unproved_in_step : (site : Site) (step : StepTree)
-    → filter_map (unproved_use site) (uses_in_step step) ≡ filter_map (unproved_use site) (map in_reason (names_of_reason step.reason))
-unproved_in_step site step =
-    filter_map-append (unproved_use site) (uses_in_goal step.goal) (map in_reason (names_of_reason step.reason))
-    ∙ ap (λ vs. vs ++ filter_map (unproved_use site) (map in_reason (names_of_reason step.reason))) (unproved_in_goal site step.goal)
+pub unproved_in_step : (scope : Scope) (step : StepTree)
+    → filter_map (unproved_use scope) (uses_in_step step) ≡ filter_map (unproved_use scope) (map in_reason (names_of_reason step.reason))
+unproved_in_step scope step =
+    filter_map-append (unproved_use scope) (uses_in_goal step.goal) (map in_reason (names_of_reason step.reason))
+    ∙ ap (λ vs. vs ++ filter_map (unproved_use scope) (map in_reason (names_of_reason step.reason))) (unproved_in_goal scope step.goal)
 
-pub unproved_of_rewrite : (site : Site) (first : TermTree) (uses : List Use)
-    → filter_map (unproved_use site) (uses_in first ++ uses) ≡ filter_map (unproved_use site) uses
-unproved_of_rewrite site first uses =
-    filter_map-append (unproved_use site) (uses_in first) uses ∙ ap (λ vs. vs ++ filter_map (unproved_use site) uses) (unproved_in_tree site (names_in first))
+pub unproved_of_rewrite : (scope : Scope) (first : TermTree) (uses : List Use)
+    → filter_map (unproved_use scope) (uses_in first ++ uses) ≡ filter_map (unproved_use scope) uses
+unproved_of_rewrite scope first uses =
+    filter_map-append (unproved_use scope) (uses_in first) uses ∙ ap (λ vs. vs ++ filter_map (unproved_use scope) uses) (unproved_in_tree scope (names_in first))
 
 pub uses_of_chain : (tree : TermAst) (parts items : List TermAst) (semis : List ℕ) → tree ≡ Chain parts semis → items ≡ parts → part_uses tree ≡ flat_map part_uses items
 uses_of_chain tree parts items semis is same = ap part_uses is ∙ uses_in-Chain parts semis ∙ ap (flat_map part_uses) (sym same)
@@ -86,23 +86,23 @@ uses_of_chain tree parts items semis is same = ap part_uses is ∙ uses_in-Chain
 pub uses_of_tensor : (tree : TermAst) (parts items : List TermAst) → tree ≡ Beside parts → items ≡ parts → part_uses tree ≡ flat_map part_uses items
 uses_of_tensor tree parts items is same = ap part_uses is ∙ uses_in-Beside parts ∙ ap (flat_map part_uses) (sym same)
 
-unproved_in_two : (site : Site) (left right : TermTree) → filter_map (unproved_use site) (uses_in left ++ uses_in right) ≡ []
-unproved_in_two site left right = unproved_of_rewrite site left (uses_in right) ∙ unproved_in_tree site (names_in right)
+unproved_in_two : (scope : Scope) (left right : TermTree) → filter_map (unproved_use scope) (uses_in left ++ uses_in right) ≡ []
+unproved_in_two scope left right = unproved_of_rewrite scope left (uses_in right) ∙ unproved_in_tree scope (names_in right)
 
 -- only a rewrite rests on rewrites
-pub unproved_elsewhere : (site : Site) (ast : Ast) → ((name : ℕ) (first : TermAst) (steps : List StepAst) → ¬ (ast ≡ RewriteDecl name first steps))
-    → None ≡ first_unproved site (statement_of ast)
-unproved_elsewhere site (GenDecl name dom cod) h = refl
-unproved_elsewhere site (LetDecl name tree) h = sym (ap (λ vs. slice_get vs 0) (unproved_in_tree site (names_in (tree_of tree))))
-unproved_elsewhere site (RuleDecl name left equals right) h = sym (ap (λ vs. slice_get vs 0) (unproved_in_two site (tree_of left) (tree_of right)))
-unproved_elsewhere site (RewriteDecl name first steps) h = absurd (h name first steps refl)
-unproved_elsewhere site (ImportDecl imported prefix) h = refl
-unproved_elsewhere site (ShowDecl name) h = refl
+pub unproved_elsewhere : (scope : Scope) (ast : Ast) → ((name : ℕ) (first : TermAst) (steps : List StepAst) → ¬ (ast ≡ RewriteDecl name first steps))
+    → None ≡ first_unproved scope (statement_of ast)
+unproved_elsewhere scope (GenDecl name dom cod) h = refl
+unproved_elsewhere scope (LetDecl name tree) h = sym (ap (λ vs. slice_get vs 0) (unproved_in_tree scope (names_in (tree_of tree))))
+unproved_elsewhere scope (RuleDecl name left equals right) h = sym (ap (λ vs. slice_get vs 0) (unproved_in_two scope (tree_of left) (tree_of right)))
+unproved_elsewhere scope (RewriteDecl name first steps) h = absurd (h name first steps refl)
+unproved_elsewhere scope (ImportDecl imported prefix) h = refl
+unproved_elsewhere scope (ShowDecl name) h = refl
 
 -- those of a rewrite are those of its steps
-pub unproved_of_steps : (site : Site) (ast : Ast) (name : ℕ) (first : TermAst) (steps items : List StepAst) → ast ≡ RewriteDecl name first steps → items ≡ steps
-    → first_unproved_among site (flat_map uses_in_step (map step_of items)) ≡ first_unproved site (statement_of ast)
-unproved_of_steps site ast name first steps items is same =
-    ap (λ xs. first_unproved_among site (flat_map uses_in_step (map step_of xs))) same
-    ∙ sym (ap (λ vs. slice_get vs 0) (unproved_of_rewrite site (tree_of first) (flat_map uses_in_step (map step_of steps))))
-    ∙ ap (λ a. first_unproved site (statement_of a)) (sym is)
+pub unproved_of_steps : (scope : Scope) (ast : Ast) (name : ℕ) (first : TermAst) (steps items : List StepAst) → ast ≡ RewriteDecl name first steps → items ≡ steps
+    → first_unproved_among scope (flat_map uses_in_step (map step_of items)) ≡ first_unproved scope (statement_of ast)
+unproved_of_steps scope ast name first steps items is same =
+    ap (λ xs. first_unproved_among scope (flat_map uses_in_step (map step_of xs))) same
+    ∙ sym (ap (λ vs. slice_get vs 0) (unproved_of_rewrite scope (tree_of first) (flat_map uses_in_step (map step_of steps))))
+    ∙ ap (λ a. first_unproved scope (statement_of a)) (sym is)

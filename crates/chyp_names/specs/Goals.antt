@@ -6,17 +6,17 @@ use Rattle.chyp_syntax.specs.Step.{StepTree, step_of}
 use Rattle.chyp_term.specs.Measure.{size_of}
 use Rattle.chyp_term.specs.Morphism.{Morphism}
 use Rattle.chyp_term.specs.Limits.{IsWithinLimits}
-use Rattle.chyp_env.specs.Site.{Site}
+use Rattle.chyp_env.specs.Scope.{Scope}
 use Rattle.chyp_names.specs.Elaboration.{expansion_at}
 use Rattle.chyp_names.specs.Limits.{most_together}
 
 -- the term of a goal, None for a hole
-abbrev pub goal_term : Site → StepTree → Option Morphism
-goal_term site step = option_map (expansion_at site) step.goal
+abbrev pub goal_term : Scope → StepTree → Option Morphism
+goal_term scope step = option_map (expansion_at scope) step.goal
 
 -- the terms of the goals of steps
-abbrev pub goal_terms : Site → List StepAst → List Morphism
-goal_terms site steps = filter_map (goal_term site) (map step_of steps)
+abbrev pub goal_terms : Scope → List StepAst → List Morphism
+goal_terms scope steps = filter_map (goal_term scope) (map step_of steps)
 
 -- terms behind others of this size together are within the limits
 pub record FitBehind (before : ℕ) (terms : List Morphism) : Type 0 where

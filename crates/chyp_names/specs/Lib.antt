@@ -8,3 +8,4 @@ pub mod Limits
 pub mod Naming
 pub mod Outcome
 pub mod Typing
+pub mod Refusal

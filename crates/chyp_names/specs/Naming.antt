@@ -9,7 +9,7 @@ use Rattle.chyp_syntax.specs.Statement.{StatementTree, generator as a_generator,
 use Rattle.chyp_syntax.specs.Step.{StepTree}
 use Rattle.chyp_syntax.specs.Term.{TermTree, TermTrees, named, wire, empty, swap, chain, beside, no_terms, term}
 use Rattle.chyp_env.specs.Environment.{Sense, generator, abbreviation, law, unproved, broken, Binding}
-use Rattle.chyp_env.specs.Site.{Site, binding_at}
+use Rattle.chyp_env.specs.Scope.{Scope, binding_at}
 
 -- a name that is used, by the number of its token: in a term, behind a `by`, or behind a `show`
 pub data Use : Type 0 where
@@ -82,14 +82,14 @@ fault_or_unknown fault None token = Some (Unknown token)
 fault_or_unknown fault (Some binding) token = fault binding.sense token
 
 -- what is wrong with the use of a name, None where it is in order; a name that is shown only has to be known
-abbrev pub fault_of : Site → Use → Option Verdict
-fault_of site (in_term token) = fault_or_unknown fault_in_term (binding_at site token) token
-fault_of site (in_reason token) = fault_or_unknown fault_in_reason (binding_at site token) token
-fault_of site (in_show token) = fault_or_unknown (λ sense at. None) (binding_at site token) token
+abbrev pub fault_of : Scope → Use → Option Verdict
+fault_of scope (in_term token) = fault_or_unknown fault_in_term (binding_at scope token) token
+fault_of scope (in_reason token) = fault_or_unknown fault_in_reason (binding_at scope token) token
+fault_of scope (in_show token) = fault_or_unknown (λ sense at. None) (binding_at scope token) token
 
 -- what is wrong with the first use of a name that is at fault, None where all are in order
-abbrev pub first_fault : Site → StatementTree → Option Verdict
-first_fault site tree = slice_get (filter_map (fault_of site) (uses_of tree)) 0
+abbrev pub first_fault : Scope → StatementTree → Option Verdict
+first_fault scope tree = slice_get (filter_map (fault_of scope) (uses_of tree)) 0
 
 -- the token of a name behind a `by` whose rewrite is not proved
 abbrev pub unproved_token : Option Binding → ℕ → Option ℕ
@@ -101,10 +101,10 @@ unproved_token (Some binding) token = go binding.sense
     go _ = None
 
 -- the token of a use that rests on a rewrite which is not proved
-abbrev pub unproved_use : Site → Use → Option ℕ
-unproved_use site (in_reason token) = unproved_token (binding_at site token) token
-unproved_use site _ = None
+abbrev pub unproved_use : Scope → Use → Option ℕ
+unproved_use scope (in_reason token) = unproved_token (binding_at scope token) token
+unproved_use scope _ = None
 
 -- the first name behind a `by` whose rewrite is not proved
-abbrev pub first_unproved : Site → StatementTree → Option ℕ
-first_unproved site tree = slice_get (filter_map (unproved_use site) (uses_of tree)) 0
+abbrev pub first_unproved : Scope → StatementTree → Option ℕ
+first_unproved scope tree = slice_get (filter_map (unproved_use scope) (uses_of tree)) 0

@@ -2,17 +2,12 @@
 use Rattle.std.specs.Prelude.{◌≡◌, ◌-◌, ◌<◌, List, [], length, get_or, Option, None, Some, option_map, slice_get}
 use Rattle.chyp_base.specs.declared.verdict.Verdict.{Verdict}
 use Rattle.chyp_base.specs.declared.verdict.Verdict.TheVariants.{Accepted, Proved}
-use Rattle.chyp_lex.specs.declared.token.Token.{Token}
 use Rattle.chyp_lex.specs.declared.token.TokenKind.{TokenKind}
 use Rattle.chyp_lex.specs.declared.token.TokenKind.TheVariants.{WordGen, WordLet, WordRewrite}
 use Rattle.chyp_term.specs.Derivation.{empty}
 use Rattle.chyp_term.specs.Morphism.{Morphism, generator as a_generator}
 use Rattle.chyp_env.specs.Environment.{Sense, generator, abbreviation, law, unproved, broken}
 use Rattle.chyp_names.specs.declared.body.Body.{Body}
-
--- the kind of the first token
-abbrev pub keyword_in : List Token → Option TokenKind
-keyword_in tokens = option_map (λ token. token.kind) (slice_get tokens 0)
 
 -- the terms of a body, none where there is no body
 abbrev pub terms_in : Option Body → List Morphism

@@ -1,36 +1,26 @@
 // What statements bind.
-ghost use Rattle.chyp_env.specs.Site.{nothing as nothing'};
 ghost use Rattle.std.specs.Prelude.{◌≡◌, ◌<◌, ◌++◌, ◌∷◌, [], ℕ, List, Option, false, length, IfOk, IfSome, IfNone, IsUtf8, Some, OnOk, OnErr, option_copied};
 ghost use Rattle.chyp_base.specs.declared.verdict.Verdict.{Verdict};
 ghost use Rattle.chyp_lex.specs.declared.token.TokenKind.{TokenKind};
 ghost use Rattle.chyp_lex.specs.declared.token.TokenKind.TheVariants.{WordGen};
-ghost use Rattle.chyp_lex.specs.Tokens.{AreSpans};
 ghost use Rattle.chyp_syntax.specs.Heading.{declared_name};
 ghost use Rattle.chyp_term.specs.Equation.{equation_of};
 ghost use Rattle.chyp_term.specs.Term.{morphism_of};
-ghost use Rattle.chyp_env.specs.ChunkView.{IsLent, site_of};
 ghost use Rattle.chyp_env.specs.Entry.{sense_of};
 ghost use Rattle.chyp_env.specs.Environment.{is_bound};
+ghost use Rattle.chyp_env.specs.ImportState.{IsNotThere, imported_of, site_of};
+ghost use Rattle.chyp_env.specs.Site.{Imported};
 ghost use Rattle.chyp_env.specs.Sound.{IsSoundSense};
 ghost use Rattle.chyp_names.specs.Binding.{Binds, IsOutcome};
-ghost use Rattle.chyp_names.specs.Outcome.{HasTermsFor, IsGenerator, accepted_sense, first_of, generator_sense, keyword_in, last_of, refused_sense, sense_for, terms_in};
+ghost use Rattle.chyp_names.specs.Outcome.{HasTermsFor, IsGenerator, accepted_sense, first_of, generator_sense, last_of, refused_sense, sense_for, terms_in};
 ghost use Rattle.chyp_names.specs.Typing.{AreTypedAlike};
 
 use crate::Body;
 use chyp_base::{Name, NoMemory, Verdict};
-use chyp_env::{ChunkView, Entry, Env, KnownTerm, Meaning, Origin};
-use chyp_lex::{Token, TokenKind};
-use chyp_syntax::declared_name;
+use chyp_env::{ChunkView, Entry, Env, ImportState, KnownTerm, Meaning, Origin};
+use chyp_lex::TokenKind;
 use chyp_term::{Equation, Shape, Term};
 use std::alloc::Global;
-
-// The kind of the first token.
-fn keyword(tokens: &[Token]) -> Option<TokenKind>
-    ensures { result ≡ keyword_in tokens.now }
-{
-    let first = tokens.first()?;
-    Some(first.kind)
-}
 
 // The terms of a body, none where there is no body.
 fn terms<'a>(body: Option<&'a Body>) -> &'a [KnownTerm]
@@ -167,20 +157,13 @@ fn spelled(alloc: Global, bytes: &[u8]) -> Result<Name, NoMemory>
 }
 
 // The name that a statement binds, None where it binds nothing.
-fn unbound<'a>(text: &'a [u8], tokens: &[Token], env: &Env) -> Option<&'a [u8]>
-    requires { AreSpans (length text.now) tokens.now }
-    ensures name { IfSome result (λ name. declared_name text.entry.now tokens.now ≡ Some name.now) }
+fn unbound<'a>(chunk: &ChunkView<'a>, env: &Env) -> Option<&'a [u8]>
+    ensures name { IfSome result (λ name. declared_name chunk.now ≡ Some name.now) }
     ensures free { IfSome result (λ name. is_bound env.now name.now ≡ false) }
-    ensures none { IfNone result ((home : List ℕ) (number : ℕ) (verdict : Verdict)
-        → Binds (record {
-          home = home;
-          text = text.entry.now;
-          env = env.now;
-          tokens = tokens.now;
-          imported = nothing';
-        }) number verdict env.now) }
+    ensures none { IfNone result ((home : List ℕ) (imported : Imported) (number : ℕ) (verdict : Verdict) → IsNotThere imported
+        → Binds (record { scope = record { words = chunk.now; env = env.now }; home = home; imported = imported }) number verdict env.now) }
 {
-    let name = declared_name(text, tokens)?;
+    let name = chunk.declared_name()?;
     match env.lookup(name) {
         Some(_) => None,
         None => Some(name),
@@ -215,8 +198,8 @@ fn bind_name(
 }
 
 /// Binds the name of a statement that has this number in the module of this name, once it has its
-/// verdict. `body` is what it means where nothing refuses it, with terms that are typed and have one
-/// type.
+/// verdict. `import` is the state of its import, which is no module that is there, and `body` what it
+/// means where nothing refuses it, with terms that are typed and have one type.
 ///
 /// An accepted `gen` is bound as a generator, an accepted `let` as its term, an accepted `rule` and a
 /// proved `rewrite` as laws from the first term to the last, any other `rewrite` as one that is not
@@ -231,21 +214,23 @@ pub fn bind(
     module: &Name,
     index: u32,
     chunk: &ChunkView<'_>,
+    import: &ImportState<'_>,
     body: Option<&Body>,
     verdict: &Verdict,
 ) -> Result<(), NoMemory>
-    requires lent { IsLent chunk.now }
-    requires outcome { IsOutcome (site_of «module».now chunk.now env.old) (option_copied body) verdict.now }
+    requires import { IsNotThere (imported_of import.now) }
+    requires outcome { IsOutcome (site_of (record { words = chunk.now; env = env.old }) «module».now import.now) (option_copied body) verdict.now }
     requires typed { IfSome (option_copied body) (λ body. AreTypedAlike body.terms) }
-    ensures ok { OnOk result (Binds (site_of «module».now chunk.now env.old) index verdict.now env.new) }
+    ensures ok { OnOk result (Binds (site_of (record { words = chunk.now; env = env.old }) «module».now import.now) index verdict.now env.new) }
     ensures err { OnErr result (env.new ≡ env.old) }
 {
-    let Some(name) = unbound(chunk.first, chunk.tokens, env) else {
+    let Some(name) = unbound(chunk, env) else {
         return Ok(());
     };
+    chunk.spelled();
     let alloc = env.allocator();
     let terms = needed(alloc, terms(body), verdict)?;
-    let meaning = meaning(keyword(chunk.tokens), terms, verdict)?;
+    let meaning = meaning(chunk.keyword(), terms, verdict)?;
     bind_name(env, module, index, name, meaning)
 }
 
@@ -260,20 +245,22 @@ pub fn bind_owned(
     module: &Name,
     index: u32,
     chunk: &ChunkView<'_>,
+    import: &ImportState<'_>,
     body: Option<Body>,
     verdict: &Verdict,
 ) -> Result<(), NoMemory>
-    requires lent { IsLent chunk.now }
-    requires outcome { IsOutcome (site_of «module».now chunk.now env.old) body verdict.now }
+    requires import { IsNotThere (imported_of import.now) }
+    requires outcome { IsOutcome (site_of (record { words = chunk.now; env = env.old }) «module».now import.now) body verdict.now }
     requires typed { IfSome body (λ body. AreTypedAlike body.terms) }
-    ensures ok { OnOk result (Binds (site_of «module».now chunk.now env.old) index verdict.now env.new) }
+    ensures ok { OnOk result (Binds (site_of (record { words = chunk.now; env = env.old }) «module».now import.now) index verdict.now env.new) }
     ensures err { OnErr result (env.new ≡ env.old) }
 {
-    let Some(name) = unbound(chunk.first, chunk.tokens, env) else {
+    let Some(name) = unbound(chunk, env) else {
         return Ok(());
     };
+    chunk.spelled();
     let alloc = env.allocator();
     let terms = into_terms(alloc, body);
-    let meaning = meaning(keyword(chunk.tokens), terms, verdict)?;
+    let meaning = meaning(chunk.keyword(), terms, verdict)?;
     bind_name(env, module, index, name, meaning)
 }

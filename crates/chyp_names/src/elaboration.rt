@@ -1,13 +1,18 @@
 // What a statement means, or why it is refused.
-ghost use Rattle.std.specs.Prelude.{◌≡◌, ℕ, List, [], false, IfOk, IfSome, IfNone, OnOk, Err, None, is_none};
+ghost use Rattle.std.specs.Prelude.{◌≡◌, ℕ, List, [], Option, false, IfOk, IfSome, IfNone, OnOk, Err, None, Some, is_none};
 ghost use Rattle.std.specs.List.{list_any};
 ghost use Rattle.chyp_base.specs.declared.verdict.Verdict.{Verdict};
 ghost use Rattle.chyp_syntax.specs.Sentence.{IsSentence};
 ghost use Rattle.chyp_syntax.specs.Statement.{statement_of};
-ghost use Rattle.chyp_env.specs.ChunkView.{IsLent, site_of};
-ghost use Rattle.chyp_env.specs.Site.{is_declared};
-ghost use Rattle.chyp_names.specs.Elaboration.{IsBody, IsRefused, Passes, has_hole, import_fault, is_import};
-ghost use Rattle.chyp_names.specs.Naming.{first_fault};
+ghost use Rattle.chyp_env.specs.Environment.{Binding};
+ghost use Rattle.chyp_env.specs.ImportState.{IsNotThere, imported_of, site_of};
+ghost use Rattle.chyp_env.specs.Scope.{is_declared};
+ghost use Rattle.chyp_names.specs.Elaboration.{IsBody, IsRefused, Passes, fault_of_module, has_hole, import_fault, is_import, steps_at, terms_in, tests_at};
+ghost use Rattle.chyp_names.specs.Limits.{AreWithinLimits};
+ghost use Rattle.chyp_names.specs.Naming.{first_fault, first_unproved};
+ghost use Rattle.chyp_names.specs.Refusal.{IsRefusedByTerms};
+ghost use Rattle.chyp_term.specs.Step.{reasons_of};
+ghost use Rattle.chyp_env.specs.Typing.{AllHold, FailsFirst};
 ghost use Rattle.chyp_names.specs.Typing.{AreTypedAlike};
 
 use crate::limits::is_small;
@@ -16,20 +21,9 @@ use crate::steps::steps;
 use crate::terms::terms;
 use crate::{Body, ElabError};
 use chyp_base::{Name, Verdict};
-use chyp_env::{ChunkView, Env, TypeFault};
-use chyp_syntax::{Ast, StepAst, declared_name};
+use chyp_env::{ImportState, KnownTerms, Scope, TypeFault};
+use chyp_syntax::{Ast, StepAst};
 use std::alloc::Global;
-
-// Whether the statement would bind a name that is bound already.
-fn is_declared(chunk: &ChunkView<'_>, env: &Env) -> bool
-    requires { IsLent chunk.now }
-    ensures { result ≡ is_declared (site_of [] chunk.now env.now) }
-{
-    match declared_name(chunk.first, chunk.tokens) {
-        Some(name) => env.lookup(name).is_some(),
-        None => false,
-    }
-}
 
 // Whether the statement is an import.
 fn is_import(ast: &Ast) -> bool
@@ -38,22 +32,35 @@ fn is_import(ast: &Ast) -> bool
     matches!(ast, Ast::ImportDecl { .. })
 }
 
+// What is wrong with an import in this state.
+fn import_fault(import: &ImportState<'_>) -> Verdict
+    requires { IsNotThere (imported_of import.now) }
+    ensures { (env : List Binding) (prefix : Option (List ℕ)) → fault_of_module env (imported_of import.now) prefix ≡ Some result }
+{
+    match import {
+        ImportState::NotImport => Verdict::NotBuilt,
+        ImportState::Absent => Verdict::NoModule { token: 1 },
+        ImportState::OnCycle => Verdict::Cycle { token: 1 },
+        ImportState::Module(_) => unreachable!(),
+    }
+}
+
 // Why names refuse the statement: the one that it would bind, or one that it uses. An import is refused
 // before its names are looked at.
-fn refused_by_names(ast: &Ast, chunk: &ChunkView<'_>, env: &Env) -> Option<Verdict>
-    requires { IsLent chunk.now }
-    ensures some { (home : List ℕ) → IfSome result (IsRefused (site_of home chunk.now env.now) (statement_of ast.now)) }
-    ensures fresh { IfNone result (is_declared (site_of [] chunk.now env.now) ≡ false) }
-    ensures fits { IfNone result (import_fault (site_of [] chunk.now env.now) (statement_of ast.now) ≡ None) }
-    ensures known { IfNone result (first_fault (site_of [] chunk.now env.now) (statement_of ast.now) ≡ None) }
+fn refused_by_names(ast: &Ast, scope: &Scope<'_>, import: &ImportState<'_>) -> Option<Verdict>
+    requires { IsNotThere (imported_of import.now) }
+    ensures some { (home : List ℕ) → IfSome result (IsRefused (site_of scope.now home import.now) (statement_of ast.now)) }
+    ensures fresh { IfNone result (is_declared scope.now ≡ false) }
+    ensures fits { (home : List ℕ) → IfNone result (import_fault (site_of scope.now home import.now) (statement_of ast.now) ≡ None) }
+    ensures known { IfNone result (first_fault scope.now (statement_of ast.now) ≡ None) }
 {
-    if is_declared(chunk, env) {
+    if scope.is_declared() {
         return Some(Verdict::Declared { token: 1 });
     }
     if is_import(ast) {
-        return Some(Verdict::NotBuilt);
+        return Some(import_fault(import));
     }
-    first_fault(ast, chunk, env)
+    first_fault(ast, scope)
 }
 
 // Whether one of the steps is a hole.
@@ -73,8 +80,67 @@ fn has_hole(ast: &Ast) -> bool
     }
 }
 
-/// What a statement means behind statements that have made this environment, in the module of this
-/// name, which is empty for the main text. `ast` is the tree of the statement.
+// The terms of a statement within the limits, with the plain wires that its environment shares.
+fn typed_terms(
+    alloc: Global,
+    module: &Name,
+    ast: &Ast,
+    scope: &Scope<'_>,
+) -> Result<KnownTerms, TypeFault>
+    requires sentence { IsSentence scope.now.words (statement_of ast.now) }
+    requires small { AreWithinLimits (statement_of ast.now) (terms_in [] scope.now (statement_of ast.now)) }
+    ensures terms { IfOk result (λ terms. terms ≡ terms_in «module».now scope.now (statement_of ast.now)) }
+    ensures hold { OnOk result (AllHold (tests_at scope.now (statement_of ast.now))) }
+    ensures alike { OnOk result ((home : List ℕ) → AreTypedAlike (terms_in home scope.now (statement_of ast.now))) }
+    ensures fails { (token : ℕ) → result ≡ Err (TypeFault.Fails token) →
+        FailsFirst (tests_at scope.now (statement_of ast.now)) token }
+{
+    let plain = scope.env().plain_wires()?;
+    let result = terms(alloc, &plain, module, ast, scope);
+    // As a call, it takes one step of the proof.
+    drop(plain);
+    result
+}
+
+// What a statement means that names don't refuse and that is within the limits.
+fn made(
+    alloc: Global,
+    module: &Name,
+    ast: &Ast,
+    scope: &Scope<'_>,
+) -> Result<Body, ElabError>
+    requires sentence { IsSentence scope.now.words (statement_of ast.now) }
+    requires known { first_fault scope.now (statement_of ast.now) ≡ None }
+    requires small { AreWithinLimits (statement_of ast.now) (terms_in [] scope.now (statement_of ast.now)) }
+    ensures terms { IfOk result (λ body. body.terms ≡ terms_in «module».now scope.now (statement_of ast.now)) }
+    ensures steps { IfOk result (λ body. reasons_of body.steps ≡ steps_at scope.now (statement_of ast.now)) }
+    ensures hole { IfOk result (λ body. body.hole ≡ has_hole (statement_of ast.now)) }
+    ensures typed { IfOk result (λ body. AreTypedAlike body.terms) }
+    ensures hold { OnOk result (AllHold (tests_at scope.now (statement_of ast.now))) }
+    ensures proved { OnOk result (first_unproved scope.now (statement_of ast.now) ≡ None) }
+    ensures refused { (verdict : Verdict) → result ≡ Err (ElabError.Refused verdict) →
+        IsRefusedByTerms scope.now (statement_of ast.now) verdict }
+{
+    let terms = match typed_terms(alloc, module, ast, scope) {
+        Ok(terms) => terms,
+        Err(TypeFault::Fails { token }) => {
+            return Err(ElabError::Refused(Verdict::Mistyped { token }));
+        }
+        Err(TypeFault::NoMemory) => return Err(ElabError::NoMemory),
+    };
+    if let Some(token) = first_unproved(ast, scope) {
+        return Err(ElabError::Refused(Verdict::Unproved { token }));
+    }
+    Ok(Body {
+        terms,
+        steps: steps(alloc, ast, scope)?,
+        hole: has_hole(ast),
+    })
+}
+
+/// What a statement means where names stand for what they do in its scope, in the module of this name,
+/// which is empty for the main text. `ast` is the tree of the statement, and `import` the state of its
+/// import, which is no module that is there.
 ///
 /// The terms of the body are typed, and all have one type. Their types and their measures are found
 /// here, and go with them from then on. A statement that is too big is refused before any of its terms
@@ -83,44 +149,29 @@ fn has_hole(ast: &Ast) -> bool
 /// # Errors
 ///
 /// `Refused` exactly where something refuses the statement, with the verdict of the first of these
-/// points that holds: its name is bound already; it is an import, which gets `not-built`; a name that it
-/// uses is at fault; it passes a limit; its terms have no types that agree; it rests on a rewrite that
+/// points that holds: its name is bound already; it is an import, which gets `not-built` where nothing is
+/// known of its module; a name that it uses is at fault; it passes a limit; its terms have no types that agree; it rests on a rewrite that
 /// is not proved. `NoMemory` where there is no memory for the body.
 pub fn elaborate(
     alloc: Global,
     module: &Name,
     ast: &Ast,
-    chunk: &ChunkView<'_>,
-    env: &Env,
+    scope: &Scope<'_>,
+    import: &ImportState<'_>,
 ) -> Result<Body, ElabError>
-    requires sentence { IsSentence chunk.now.tokens.now (statement_of ast.now) }
-    requires lent { IsLent chunk.now }
-    ensures passes { OnOk result (Passes (site_of «module».now chunk.now env.now) (statement_of ast.now)) }
-    ensures body { IfOk result (IsBody (site_of «module».now chunk.now env.now) (statement_of ast.now)) }
+    requires sentence { IsSentence scope.now.words (statement_of ast.now) }
+    requires import { IsNotThere (imported_of import.now) }
+    ensures passes { OnOk result (Passes (site_of scope.now «module».now import.now) (statement_of ast.now)) }
+    ensures body { IfOk result (IsBody (site_of scope.now «module».now import.now) (statement_of ast.now)) }
     ensures typed { IfOk result (λ body. AreTypedAlike body.terms) }
     ensures refused { (verdict : Verdict) → result ≡ Err (ElabError.Refused verdict) →
-        IsRefused (site_of «module».now chunk.now env.now) (statement_of ast.now) verdict }
+        IsRefused (site_of scope.now «module».now import.now) (statement_of ast.now) verdict }
 {
-    if let Some(verdict) = refused_by_names(ast, chunk, env) {
+    if let Some(verdict) = refused_by_names(ast, scope, import) {
         return Err(ElabError::Refused(verdict));
     }
-    if !is_small(ast, chunk, env) {
+    if !is_small(ast, scope) {
         return Err(ElabError::Refused(Verdict::TooBig));
     }
-    let plain = env.plain_wires()?;
-    let terms = match terms(alloc, &plain, module, ast, chunk, env) {
-        Ok(terms) => terms,
-        Err(TypeFault::Fails { token }) => {
-            return Err(ElabError::Refused(Verdict::Mistyped { token }));
-        }
-        Err(TypeFault::NoMemory) => return Err(ElabError::NoMemory),
-    };
-    if let Some(token) = first_unproved(ast, chunk, env) {
-        return Err(ElabError::Refused(Verdict::Unproved { token }));
-    }
-    Ok(Body {
-        terms,
-        steps: steps(alloc, ast, chunk, env)?,
-        hole: has_hole(ast),
-    })
+    made(alloc, module, ast, scope)
 }

@@ -1,6 +1,6 @@
 //! What statements mean, and what their names stand for then.
 //!
-//! Behind the statements that have made an [`Env`], [`elaborate`] gives the terms and steps of a
+//! Where names stand for what they do in its [`Scope`], [`elaborate`] gives the terms and steps of a
 //! statement, or refuses it with the verdict of the first point that holds: its name is bound already,
 //! a name that it uses is at fault, it is too big, its terms have no types that agree, or it rests on a
 //! rewrite that is not proved. A statement that is too big is refused before any of its terms is made.
@@ -19,6 +19,8 @@ mod terms;
 
 pub use binding::{bind, bind_owned};
 pub use body::Body;
-pub use chyp_env::{ChunkView, Entry, Env, KnownTerm, KnownTerms, Meaning, Origin};
+pub use chyp_env::{
+    ChunkView, Entry, Env, ImportState, KnownTerm, KnownTerms, Meaning, Origin, Scope,
+};
 pub use elab_error::ElabError;
 pub use elaboration::elaborate;

@@ -4,24 +4,22 @@ ghost use Rattle.chyp_syntax.specs.Statement.{statement_of};
 ghost use Rattle.chyp_syntax.specs.Step.{step_of};
 ghost use Rattle.chyp_term.specs.Equation.{equation_of, equations_of};
 ghost use Rattle.chyp_term.specs.Step.{reason_of, reasons_of};
-ghost use Rattle.chyp_env.specs.ChunkView.{IsLent, site_of};
 ghost use Rattle.chyp_names.specs.Elaboration.{equation_at, reason_at, steps_at};
 ghost use Rattle.chyp_names.specs.Laws.{IsLawAt, RestsOnLaws};
 ghost use Rattle.chyp_names.specs.Naming.{first_fault, first_unproved};
 
 use chyp_base::NoMemory;
-use chyp_env::{ChunkView, Env, Meaning};
-use chyp_syntax::{Ast, ReasonAst, SignedAst, StepAst, text_at};
+use chyp_env::{Meaning, Scope};
+use chyp_syntax::{Ast, ReasonAst, SignedAst, StepAst};
 use chyp_term::{Equation, Equations, Step, StepList, copy};
 use std::alloc::Global;
 
 // The equation of a rule, with its sides exchanged behind a `-`.
-fn equation(rule: SignedAst, chunk: &ChunkView<'_>, env: &Env) -> Result<Equation, NoMemory>
-    requires lent { IsLent chunk.now }
-    requires law { IsLawAt (site_of [] chunk.now env.now) rule.name }
-    ensures { IfOk result (λ equation. equation_of equation ≡ equation_at (site_of [] chunk.now env.now) rule) }
+fn equation(rule: SignedAst, scope: &Scope<'_>) -> Result<Equation, NoMemory>
+    requires { IsLawAt scope.now rule.name }
+    ensures { IfOk result (λ equation. equation_of equation ≡ equation_at scope.now rule) }
 {
-    let Some(entry) = env.lookup(text_at(chunk.first, chunk.tokens, rule.name)) else {
+    let Some(entry) = scope.entry_at(rule.name) else {
         unreachable!()
     };
     let Meaning::Law(law) = &entry.meaning else {
@@ -43,16 +41,14 @@ fn equation(rule: SignedAst, chunk: &ChunkView<'_>, env: &Env) -> Result<Equatio
 fn equations(
     alloc: Global,
     rules: &[SignedAst],
-    chunk: &ChunkView<'_>,
-    env: &Env,
+    scope: &Scope<'_>,
 ) -> Result<Equations, NoMemory>
-    requires lent { IsLent chunk.now }
-    requires laws { All (λ rule. IsLawAt (site_of [] chunk.now env.now) rule.name) rules.now }
-    ensures { IfOk result (λ equations. equations_of equations ≡ map (equation_at (site_of [] chunk.now env.now)) rules.now) }
+    requires { All (λ rule. IsLawAt scope.now rule.name) rules.now }
+    ensures { IfOk result (λ equations. equations_of equations ≡ map (equation_at scope.now) rules.now) }
 {
     let mut equations = Vec::with_capacity(alloc, rules.len())?;
     for rule in rules {
-        equations.push(equation(*rule, chunk, env)?)?;
+        equations.push(equation(*rule, scope)?)?;
     }
     Ok(Equations::from_vec(equations))
 }
@@ -61,18 +57,16 @@ fn equations(
 fn step(
     alloc: Global,
     reason: &ReasonAst,
-    chunk: &ChunkView<'_>,
-    env: &Env,
+    scope: &Scope<'_>,
 ) -> Result<Step, NoMemory>
-    requires lent { IsLent chunk.now }
-    requires laws { RestsOnLaws (site_of [] chunk.now env.now) reason.now }
-    ensures { IfOk result (λ step. reason_of step ≡ reason_at (site_of [] chunk.now env.now) reason.now) }
+    requires { RestsOnLaws scope.now reason.now }
+    ensures { IfOk result (λ step. reason_of step ≡ reason_at scope.now reason.now) }
 {
     match reason {
         ReasonAst::Plain => Ok(Step::Refl),
-        ReasonAst::Rule(rule) => Ok(Step::ByRule(equation(*rule, chunk, env)?)),
+        ReasonAst::Rule(rule) => Ok(Step::ByRule(equation(*rule, scope)?)),
         ReasonAst::Simp(rules) => {
-            Ok(Step::Simp(equations(alloc, rules.as_slice(), chunk, env)?))
+            Ok(Step::Simp(equations(alloc, rules.as_slice(), scope)?))
         }
     }
 }
@@ -81,17 +75,15 @@ fn step(
 fn step_list(
     alloc: Global,
     steps: &[StepAst],
-    chunk: &ChunkView<'_>,
-    env: &Env,
+    scope: &Scope<'_>,
 ) -> Result<StepList, NoMemory>
-    requires lent { IsLent chunk.now }
-    requires laws { All (λ step. RestsOnLaws (site_of [] chunk.now env.now) step.reason) steps.now }
+    requires { All (λ step. RestsOnLaws scope.now step.reason) steps.now }
     ensures { IfOk result (λ list. reasons_of list
-        ≡ map (λ step. reason_at (site_of [] chunk.now env.now) step.reason) (map step_of steps.now)) }
+        ≡ map (λ step. reason_at scope.now step.reason) (map step_of steps.now)) }
 {
     let mut list = Vec::with_capacity(alloc, steps.len())?;
     for ast in steps {
-        list.push(step(alloc, &ast.reason, chunk, env)?)?;
+        list.push(step(alloc, &ast.reason, scope)?)?;
     }
     Ok(StepList::from_vec(list))
 }
@@ -101,16 +93,14 @@ fn step_list(
 pub(crate) fn steps(
     alloc: Global,
     ast: &Ast,
-    chunk: &ChunkView<'_>,
-    env: &Env,
+    scope: &Scope<'_>,
 ) -> Result<StepList, NoMemory>
-    requires lent { IsLent chunk.now }
-    requires known { first_fault (site_of [] chunk.now env.now) (statement_of ast.now) ≡ None }
-    requires proved { first_unproved (site_of [] chunk.now env.now) (statement_of ast.now) ≡ None }
-    ensures { IfOk result (λ list. reasons_of list ≡ steps_at (site_of [] chunk.now env.now) (statement_of ast.now)) }
+    requires known { first_fault scope.now (statement_of ast.now) ≡ None }
+    requires proved { first_unproved scope.now (statement_of ast.now) ≡ None }
+    ensures { IfOk result (λ list. reasons_of list ≡ steps_at scope.now (statement_of ast.now)) }
 {
     match ast {
-        Ast::RewriteDecl { steps, .. } => step_list(alloc, steps.as_slice(), chunk, env),
+        Ast::RewriteDecl { steps, .. } => step_list(alloc, steps.as_slice(), scope),
         _ => Ok(StepList::from_vec(Vec::new(alloc))),
     }
 }

@@ -5,19 +5,17 @@ ghost use Rattle.chyp_syntax.specs.Statement.{statement_of};
 ghost use Rattle.chyp_syntax.specs.Term.{tree_of};
 ghost use Rattle.chyp_term.specs.Limits.{IsWithinLimits, most_ports};
 ghost use Rattle.chyp_term.specs.Morphism.{generator as a_generator};
-ghost use Rattle.chyp_env.specs.ChunkView.{IsLent, site_of};
 ghost use Rattle.chyp_env.specs.Expansion.{plain_wires};
-ghost use Rattle.chyp_env.specs.PlainWires.{ArePlain};
 ghost use Rattle.chyp_env.specs.Typing.{AllHold, FailsFirst};
 ghost use Rattle.chyp_names.specs.Agreement.{Agrees, Disagrees, StepsAgree, StepsDisagree};
-ghost use Rattle.chyp_names.specs.Elaboration.{expansion_at, generator_name, terms_of, tests_at};
+ghost use Rattle.chyp_names.specs.Elaboration.{expansion_at, generator_name, terms_in, tests_at};
 ghost use Rattle.chyp_names.specs.Goals.{goal_terms};
 ghost use Rattle.chyp_names.specs.Limits.{AreWithinLimits};
 ghost use Rattle.chyp_names.specs.Typing.{AreTypedAlike};
 
 use chyp_base::{Name, NoMemory};
-use chyp_env::{ChunkView, Env, KnownTerm, KnownTerms, PlainWires, TypeFault, sizes_of_generator};
-use chyp_syntax::{Ast, StepAst, TermAst, text_at};
+use chyp_env::{KnownTerm, KnownTerms, PlainWires, Scope, TypeFault, sizes_of_generator};
+use chyp_syntax::{Ast, StepAst, TermAst};
 use chyp_term::{Shape, Term};
 use std::alloc::Global;
 
@@ -45,7 +43,6 @@ fn generator(
     dom: u64,
     cod: u64,
 ) -> Result<KnownTerm, NoMemory>
-    requires plain { ArePlain plain.now }
     requires dom { dom ≤ most_ports }
     requires cod { cod ≤ most_ports }
     ensures { IfOk result (λ term. term ≡ a_generator name (plain_wires dom) (plain_wires cod)) }
@@ -74,18 +71,15 @@ fn other(
     first: &KnownTerm,
     equals: u32,
     tree: &TermAst,
-    chunk: &ChunkView<'_>,
-    env: &Env,
+    scope: &Scope<'_>,
 ) -> Result<KnownTerm, TypeFault>
-    requires lent { IsLent chunk.now }
-    requires plain { ArePlain plain.now }
-    requires small { IsWithinLimits (expansion_at (site_of [] chunk.now env.now) (tree_of tree.now)) }
-    ensures term { IfOk result (λ term. term ≡ expansion_at (site_of [] chunk.now env.now) (tree_of tree.now)) }
-    ensures ok { OnOk result (Agrees (site_of [] chunk.now env.now) first.now equals (tree_of tree.now)) }
+    requires { IsWithinLimits (expansion_at scope.now (tree_of tree.now)) }
+    ensures term { IfOk result (λ term. term ≡ expansion_at scope.now (tree_of tree.now)) }
+    ensures ok { OnOk result (Agrees scope.now first.now equals (tree_of tree.now)) }
     ensures fails { (token : ℕ) → result ≡ Err (TypeFault.Fails token) →
-        Disagrees (site_of [] chunk.now env.now) first.now equals (tree_of tree.now) token }
+        Disagrees scope.now first.now equals (tree_of tree.now) token }
 {
-    let term = KnownTerm::of_tree(alloc, plain, tree, chunk, env)?;
+    let term = KnownTerm::of_tree(alloc, plain, tree, scope)?;
     if is_same(term.shape(), first.shape()) {
         Ok(term)
     } else {
@@ -108,20 +102,17 @@ fn with_goal(
     first: &KnownTerm,
     terms: Vec<KnownTerm>,
     step: &StepAst,
-    chunk: &ChunkView<'_>,
-    env: &Env,
+    scope: &Scope<'_>,
 ) -> Result<Vec<KnownTerm>, TypeFault>
-    requires lent { IsLent chunk.now }
-    requires plain { ArePlain plain.now }
-    requires small { All IsWithinLimits (goal_terms (site_of [] chunk.now env.now) (step.now ∷ [])) }
-    ensures terms { IfOk result (λ all. all.items ≡ terms.items ++ goal_terms (site_of [] chunk.now env.now) (step.now ∷ [])) }
-    ensures ok { OnOk result (StepsAgree (site_of [] chunk.now env.now) first.now (step.now ∷ [])) }
+    requires { All IsWithinLimits (goal_terms scope.now (step.now ∷ [])) }
+    ensures terms { IfOk result (λ all. all.items ≡ terms.items ++ goal_terms scope.now (step.now ∷ [])) }
+    ensures ok { OnOk result (StepsAgree scope.now first.now (step.now ∷ [])) }
     ensures fails { (token : ℕ) → result ≡ Err (TypeFault.Fails token) →
-        StepsDisagree (site_of [] chunk.now env.now) first.now (step.now ∷ []) token }
+        StepsDisagree scope.now first.now (step.now ∷ []) token }
 {
     match &step.goal {
         Some(goal) => {
-            let term = other(alloc, plain, first, step.equals, goal, chunk, env)?;
+            let term = other(alloc, plain, first, step.equals, goal, scope)?;
             Ok(pushed(terms, term)?)
         }
         None => Ok(terms),
@@ -134,20 +125,17 @@ fn with_goals(
     plain: &PlainWires,
     first: &KnownTerm,
     steps: &[StepAst],
-    chunk: &ChunkView<'_>,
-    env: &Env,
+    scope: &Scope<'_>,
 ) -> Result<KnownTerms, TypeFault>
-    requires lent { IsLent chunk.now }
-    requires plain { ArePlain plain.now }
-    requires small { All IsWithinLimits (goal_terms (site_of [] chunk.now env.now) steps.now) }
-    ensures terms { IfOk result (λ terms. terms ≡ first.now ∷ goal_terms (site_of [] chunk.now env.now) steps.now) }
-    ensures ok { OnOk result (StepsAgree (site_of [] chunk.now env.now) first.now steps.now) }
+    requires { All IsWithinLimits (goal_terms scope.now steps.now) }
+    ensures terms { IfOk result (λ terms. terms ≡ first.now ∷ goal_terms scope.now steps.now) }
+    ensures ok { OnOk result (StepsAgree scope.now first.now steps.now) }
     ensures fails { (token : ℕ) → result ≡ Err (TypeFault.Fails token) →
-        StepsDisagree (site_of [] chunk.now env.now) first.now steps.now token }
+        StepsDisagree scope.now first.now steps.now token }
 {
     let mut terms = pushed(Vec::new(alloc), first.share()?)?;
     for step in steps {
-        terms = with_goal(alloc, plain, first, terms, step, chunk, env)?;
+        terms = with_goal(alloc, plain, first, terms, step, scope)?;
     }
     Ok(KnownTerms::from_vec(terms))
 }
@@ -180,27 +168,26 @@ pub(crate) fn terms(
     plain: &PlainWires,
     module: &Name,
     ast: &Ast,
-    chunk: &ChunkView<'_>,
-    env: &Env,
+    scope: &Scope<'_>,
 ) -> Result<KnownTerms, TypeFault>
-    requires lent { IsLent chunk.now }
-    requires plain { ArePlain plain.now }
-    requires sentence { IsSentence chunk.now.tokens.now (statement_of ast.now) }
-    requires small { AreWithinLimits (statement_of ast.now) (terms_of (site_of [] chunk.now env.now) (statement_of ast.now)) }
-    ensures terms { IfOk result (λ terms. terms ≡ terms_of (site_of «module».now chunk.now env.now) (statement_of ast.now)) }
-    ensures hold { OnOk result (AllHold (tests_at (site_of [] chunk.now env.now) (statement_of ast.now))) }
-    ensures alike { OnOk result ((home : List ℕ) → AreTypedAlike (terms_of (site_of home chunk.now env.now) (statement_of ast.now))) }
+    requires sentence { IsSentence scope.now.words (statement_of ast.now) }
+    requires small { AreWithinLimits (statement_of ast.now) (terms_in [] scope.now (statement_of ast.now)) }
+    ensures terms { IfOk result (λ terms. terms ≡ terms_in «module».now scope.now (statement_of ast.now)) }
+    ensures hold { OnOk result (AllHold (tests_at scope.now (statement_of ast.now))) }
+    ensures alike { OnOk result ((home : List ℕ) → AreTypedAlike (terms_in home scope.now (statement_of ast.now))) }
     ensures fails { (token : ℕ) → result ≡ Err (TypeFault.Fails token) →
-        FailsFirst (tests_at (site_of [] chunk.now env.now) (statement_of ast.now)) token }
+        FailsFirst (tests_at scope.now (statement_of ast.now)) token }
 {
     match ast {
         Ast::GenDecl { name, dom, cod } => {
-            let identifier = text_at(chunk.first, chunk.tokens, *name);
+            let chunk = scope.chunk();
+            chunk.spelled();
+            let identifier = chunk.bytes_at(*name);
             let name = generator_name(alloc, module, identifier)?;
             Ok(one(alloc, generator(alloc, plain, name, *dom, *cod)?)?)
         }
         Ast::LetDecl { term, .. } => {
-            let term = KnownTerm::of_tree(alloc, plain, term, chunk, env)?;
+            let term = KnownTerm::of_tree(alloc, plain, term, scope)?;
             Ok(one(alloc, term)?)
         }
         Ast::RuleDecl {
@@ -209,13 +196,13 @@ pub(crate) fn terms(
             right,
             ..
         } => {
-            let first = KnownTerm::of_tree(alloc, plain, left, chunk, env)?;
-            let last = other(alloc, plain, &first, *equals, right, chunk, env)?;
+            let first = KnownTerm::of_tree(alloc, plain, left, scope)?;
+            let last = other(alloc, plain, &first, *equals, right, scope)?;
             Ok(two(alloc, first, last)?)
         }
         Ast::RewriteDecl { first, steps, .. } => {
-            let first = KnownTerm::of_tree(alloc, plain, first, chunk, env)?;
-            with_goals(alloc, plain, &first, steps.as_slice(), chunk, env)
+            let first = KnownTerm::of_tree(alloc, plain, first, scope)?;
+            with_goals(alloc, plain, &first, steps.as_slice(), scope)
         }
         Ast::ImportDecl { .. } | Ast::ShowDecl { .. } => Ok(KnownTerms::from_vec(Vec::new(alloc))),
     }

@@ -4,14 +4,17 @@ ghost use Rattle.chyp_base.specs.declared.verdict.Verdict.TheVariants.{Accepted}
 ghost use Rattle.chyp_lex.specs.Tokens.{AreSpans, AreTokens};
 ghost use Rattle.chyp_syntax.specs.Sentence.{IsSentence};
 ghost use Rattle.chyp_syntax.specs.Statement.{statement_of};
-ghost use Rattle.chyp_env.specs.ChunkView.{IsLent, site_of};
+ghost use Rattle.chyp_env.specs.ImportState.{site_of};
 ghost use Rattle.chyp_names.specs.Binding.{Elaborates, IsOutcome, IsRewrite};
 ghost use Rattle.chyp_names.specs.Typing.{AreTypedAlike};
 
 use chyp_base::{Name, Verdict};
 use chyp_lex::{Token, TokenKind, lex};
-use chyp_names::{Body, ChunkView, ElabError, Entry, Env, Meaning, bind, bind_owned, elaborate};
-use chyp_syntax::{Ast, parse};
+use chyp_names::{
+    Body, ChunkView, ElabError, Entry, Env, ImportState, Meaning, Scope, bind, bind_owned,
+    elaborate,
+};
+use chyp_syntax::Ast;
 use chyp_term::{Step, Term};
 use std::alloc::Global;
 use std::test::Fail;
@@ -31,22 +34,14 @@ fn lent<'a>(text: &'a [u8], tokens: &'a [Token]) -> ChunkView<'a>
     requires short { length text.now ≤ 1000 }
     requires tokens { AreTokens text.now tokens.now }
     requires spans { AreSpans (length text.now) tokens.now }
-    ensures { IsLent result }
 {
-    ChunkView {
-        tokens,
-        first: text,
-        second: &[],
-    }
+    ChunkView::new(tokens, text, &[])
 }
 
-fn tree_of(alloc: Global, tokens: &[Token]) -> Result<Ast, Fail>
-    ensures { IfOk result (λ ast. IsSentence tokens.now (statement_of ast)) }
+fn tree_of(alloc: Global, chunk: &ChunkView<'_>) -> Result<Ast, Fail>
+    ensures { IfOk result (λ ast. IsSentence chunk.now (statement_of ast)) }
 {
-    if tokens.len() > 1000 {
-        return Err(Fail::new("a long statement"));
-    }
-    match parse(alloc, tokens) {
+    match chunk.parse(alloc) {
         Ok(ast) => Ok(ast),
         Err(_) => Err(Fail::new("no sentence")),
     }
@@ -54,13 +49,13 @@ fn tree_of(alloc: Global, tokens: &[Token]) -> Result<Ast, Fail>
 
 // What the statement means.
 fn meant(alloc: Global, env: &Env, chunk: &ChunkView<'_>) -> Result<Body, Fail>
-    requires { IsLent chunk.now }
-    ensures body { IfOk result (Elaborates (site_of [] chunk.now env.now)) }
+    ensures body { IfOk result (Elaborates (site_of (record { words = chunk.now; env = env.now }) [] ImportState.NotImport)) }
     ensures typed { IfOk result (λ body. AreTypedAlike body.terms) }
 {
     let main = Name::new(alloc, "")?;
-    let ast = tree_of(alloc, chunk.tokens)?;
-    match elaborate(alloc, &main, &ast, chunk, env) {
+    let ast = tree_of(alloc, chunk)?;
+    let scope = Scope::new(chunk, env);
+    match elaborate(alloc, &main, &ast, &scope, &ImportState::NotImport) {
         Ok(body) => Ok(body),
         Err(_) => Err(Fail::new("refused")),
     }
@@ -68,11 +63,11 @@ fn meant(alloc: Global, env: &Env, chunk: &ChunkView<'_>) -> Result<Body, Fail>
 
 // The verdict that refuses the statement.
 fn refusal(alloc: Global, env: &Env, chunk: &ChunkView<'_>) -> Result<Verdict, Fail>
-    requires { IsLent chunk.now }
 {
     let main = Name::new(alloc, "")?;
-    let ast = tree_of(alloc, chunk.tokens)?;
-    match elaborate(alloc, &main, &ast, chunk, env) {
+    let ast = tree_of(alloc, chunk)?;
+    let scope = Scope::new(chunk, env);
+    match elaborate(alloc, &main, &ast, &scope, &ImportState::NotImport) {
         Err(ElabError::Refused(verdict)) => Ok(verdict),
         _ => Err(Fail::new("not refused")),
     }
@@ -80,11 +75,10 @@ fn refusal(alloc: Global, env: &Env, chunk: &ChunkView<'_>) -> Result<Verdict, F
 
 // What a statement means that is accepted.
 fn accepted(alloc: Global, env: &Env, chunk: &ChunkView<'_>) -> Result<Body, Fail>
-    requires { IsLent chunk.now }
-    ensures outcome { IfOk result (λ body. IsOutcome (site_of [] chunk.now env.now) (Some body) Accepted) }
+    ensures outcome { IfOk result (λ body. IsOutcome (site_of (record { words = chunk.now; env = env.now }) [] ImportState.NotImport) (Some body) Accepted) }
     ensures typed { IfOk result (λ body. AreTypedAlike body.terms) }
 {
-    if is_rewrite(chunk.tokens) {
+    if is_rewrite(chunk) {
         return Err(Fail::new("a rewrite"));
     }
     meant(alloc, env, chunk)
@@ -98,7 +92,8 @@ fn accept(alloc: Global, env: &mut Env, text: &[u8]) -> Result<(), Fail>
     let chunk = lent(text, &tokens);
     let body = accepted(alloc, env, &chunk)?;
     let main = Name::new(alloc, "")?;
-    bind(env, &main, 0, &chunk, Some(&body), &Verdict::Accepted)?;
+    let import = ImportState::NotImport;
+    bind(env, &main, 0, &chunk, &import, Some(&body), &Verdict::Accepted)?;
     Ok(())
 }
 
@@ -110,7 +105,8 @@ fn accept_owned(alloc: Global, env: &mut Env, text: &[u8]) -> Result<(), Fail>
     let chunk = lent(text, &tokens);
     let body = accepted(alloc, env, &chunk)?;
     let main = Name::new(alloc, "")?;
-    bind_owned(env, &main, 0, &chunk, Some(body), &Verdict::Accepted)?;
+    let import = ImportState::NotImport;
+    bind_owned(env, &main, 0, &chunk, &import, Some(body), &Verdict::Accepted)?;
     Ok(())
 }
 
@@ -165,11 +161,11 @@ fn steps_in_words(alloc: Global, body: &Body) -> Result<String, Fail> {
     Ok(words)
 }
 
-fn is_rewrite(tokens: &[Token]) -> bool
-    ensures { IsTrue result ↔ IsRewrite tokens.now }
+fn is_rewrite(chunk: &ChunkView<'_>) -> bool
+    ensures { IsTrue result ↔ IsRewrite chunk.now }
 {
-    match tokens.first() {
-        Some(token) => token.kind == TokenKind::WordRewrite,
+    match chunk.keyword() {
+        Some(kind) => kind == TokenKind::WordRewrite,
         None => false,
     }
 }
@@ -185,7 +181,7 @@ fn a_name_that_is_not_bound_refuses_the_statement(rt: HostRuntime) -> Result<(),
     assert_eq!(rt; verdict, Verdict::Unknown { token: 3 });
     let main = Name::new(alloc, "")?;
     let verdict = Verdict::Unknown { token: 3 };
-    bind(&mut env, &main, 0, &chunk, None, &verdict)?;
+    bind(&mut env, &main, 0, &chunk, &ImportState::NotImport, None, &verdict)?;
     env.sound();
     match env.lookup(b"x") {
         Some(entry) => assert!(rt; matches!(entry.meaning, Meaning::Broken)),

@@ -4,9 +4,10 @@ use Rattle.std.specs.Prelude.{Contains, flat_map}
 use Rattle.std.proofs.lemmas.List.Elements.{All-append, All-cons, All-head, All-nil, All-contains, All-map, All-tail}
 use Rattle.chyp_base.specs.declared.verdict.Verdict.{Verdict}
 use Rattle.chyp_base.specs.declared.verdict.Verdict.TheVariants.{Accepted, Proved}
-use Rattle.chyp_syntax.specs.Heading.{declared_name, text_at}
+use Rattle.chyp_syntax.specs.Heading.{declared_name}
 use Rattle.chyp_syntax.specs.Step.{StepTree}
 use Rattle.chyp_syntax.specs.Statement.{rewrite}
+use Rattle.chyp_syntax.specs.Words.{bytes_at}
 use Rattle.chyp_term.specs.Derivation.{IsEquation, given}
 use Rattle.chyp_term.specs.Morphism.{Morphism}
 use Rattle.chyp_term.specs.Step.{Reason}
@@ -47,7 +48,7 @@ All-rules P (r ∷ rs) all =
     All-append P (rules_of r) (flat_map rules_of rs) (All-head (λ r. All P (rules_of r)) r rs all) (All-rules P rs (All-tail (λ r. All P (rules_of r)) r rs all))
 
 -- the first term and the last of a proved rewrite, where the laws that it cites are derived
-pub rewrite-derived : (Stands : Standing) → Known → (o : Origin) (site : Site) → Stands o site → IsSound site.env → AreLawsDerived Stands site.env → IsJudged site Proved
+pub rewrite-derived : (Stands : Standing) → Known → (o : Origin) (site : Site) → Stands o site → IsSound site.scope.env → AreLawsDerived Stands site.scope.env → IsJudged site Proved
     → (first last : Morphism) → IsRewriteOf site first last → IsDerived Stands o first last
 rewrite-derived Stands known o site st env laws j first last is =
     derived-cut Stands o (cited_by site (rewrite is.name is.tree is.steps)) first last (cited (proved-steps site Proved refl j)) (proved-follows known site env j first last is)
@@ -56,9 +57,9 @@ rewrite-derived Stands known o site st env laws j first last is =
         → (l : IsLawThere site token) × IsDerived Stands o l.first l.last × IsDerived Stands o l.last l.first
     at p step token c d =
         let l = cited-law site is.name is.tree is.steps p step token c d in
-        let has = binding-found site.env (text_at site.text site.tokens token) l.binding l.is in
+        let has = binding-found site.scope.env (bytes_at site.scope.words token) l.binding l.is in
         let derived : IsDerived Stands l.binding.origin l.first l.last =
-        subst (IsLawDerived Stands l.binding.origin) l.sense (All-contains (λ (b : Binding). IsLawDerived Stands b.origin b.sense) site.env l.binding laws has.0) in
+        subst (IsLawDerived Stands l.binding.origin) l.sense (All-contains (λ (b : Binding). IsLawDerived Stands b.origin b.sense) site.scope.env l.binding laws has.0) in
         let cites : Cites site l.binding =
         record { name = is.name; first = is.tree; steps = is.steps; is_sentence = is.is_sentence; step = step; is_step = c; token = token; named = d; is = l.is } in
         let mine = derived-along Stands l.binding.origin o (λ e r. record { from = r.from; rests = by_name st cites r.rests; means = r.means }) l.first l.last derived in
@@ -66,18 +67,18 @@ rewrite-derived Stands known o site st env laws j first last is =
 
     cited : ProvedSteps site → All (λ (e : Equation). IsDerived Stands o e.0 e.1) (cited_by site (rewrite is.name is.tree is.steps))
     cited q =
-        let trees = known.trees site.tokens (rewrite q.name q.first q.steps) (rewrite is.name is.tree is.steps) q.is_sentence is.is_sentence in
+        let trees = known.trees site.scope.words (rewrite q.name q.first q.steps) (rewrite is.name is.tree is.steps) q.is_sentence is.is_sentence in
         let p : Passes site (rewrite is.name is.tree is.steps) = subst (Passes site) trees q.passes in
-        All-rules (λ e. IsDerived Stands o e.0 e.1) (steps_at site (rewrite is.name is.tree is.steps))
-        (All-map (λ r. All (λ (e : Equation). IsDerived Stands o e.0 e.1) (rules_of r)) (λ (step : StepTree). reason_at site step.reason) is.steps
-        (All-from (λ (step : StepTree). All (λ (e : Equation). IsDerived Stands o e.0 e.1) (rules_of (reason_at site step.reason))) is.steps
+        All-rules (λ e. IsDerived Stands o e.0 e.1) (steps_at site.scope (rewrite is.name is.tree is.steps))
+        (All-map (λ r. All (λ (e : Equation). IsDerived Stands o e.0 e.1) (rules_of r)) (λ (step : StepTree). reason_at site.scope step.reason) is.steps
+        (All-from (λ (step : StepTree). All (λ (e : Equation). IsDerived Stands o e.0 e.1) (rules_of (reason_at site.scope step.reason))) is.steps
         (λ step c. reason-laws (λ (e : Equation). IsDerived Stands o e.0 e.1) site step.reason (λ token d. at p step token c d))))
 
 -- ---- environments
 
 -- what a statement stands for is derived
-sense-derived : (Stands : Standing) → Known → (o : Origin) (s : Site) → Stands o s → IsSound s.env → AreLawsDerived Stands s.env
-    → (v : Verdict) (name : List ℕ) → declared_name s.text s.tokens ≡ Some name → IsJudged s v → (sense : Sense) → StandsFor s v sense → IsLawDerived Stands o sense
+sense-derived : (Stands : Standing) → Known → (o : Origin) (s : Site) → Stands o s → IsSound s.scope.env → AreLawsDerived Stands s.scope.env
+    → (v : Verdict) (name : List ℕ) → declared_name s.scope.words ≡ Some name → IsJudged s v → (sense : Sense) → StandsFor s v sense → IsLawDerived Stands o sense
 sense-derived Stands known o s st env laws v name e j sense (a_declared_generator t f) = tt
 sense-derived Stands known o s st env laws v name e j sense (a_term t f) = tt
 sense-derived Stands known o s st env laws v name e j sense (a_rule {name = n} {equals} {left} {right} {first} {last} t f) =
@@ -92,13 +93,13 @@ sense-derived Stands known o s st env laws v name e j sense (an_unproved_rewrite
 sense-derived Stands known o s st env laws v name e j sense (a_broken_statement r p) = tt
 
 -- so are the laws behind a statement
-pub binds-derived : (Stands : Standing) → Known → (n : ℕ) (s : Site) → Stands (s.home, n) s → IsSound s.env → AreLawsDerived Stands s.env → AreImportsDerived Stands s.imported
+pub binds-derived : (Stands : Standing) → Known → (n : ℕ) (s : Site) → Stands (s.home, n) s → IsSound s.scope.env → AreLawsDerived Stands s.scope.env → AreImportsDerived Stands s.imported
     → (v : Verdict) (next : List Binding) → IsJudged s v → Binds s n v next → AreLawsDerived Stands next
 binds-derived Stands known n s st env laws k v next j (nothing e o) = laws
 binds-derived Stands known n s st env laws k v next j (again e f) = laws
 binds-derived Stands known n s st env laws k v next j (anew {name} {sense} e f x) =
     let P : Binding → Type 0 = λ b. IsLawDerived Stands b.origin b.sense in
     let b : Binding = record { name = name; origin = (s.home, n); sense = sense } in
-    All-append P s.env (b ∷ []) laws (All-cons P b [] (sense-derived Stands known (s.home, n) s st env laws v name e j sense x) (All-nil _))
+    All-append P s.scope.env (b ∷ []) laws (All-cons P b [] (sense-derived Stands known (s.home, n) s st env laws v name e j sense x) (All-nil _))
 binds-derived Stands known n s st env laws k v next j (imports {as_word} {env = bs} f t i) =
-    import-all (λ b. IsLawDerived Stands b.origin b.sense) s.env bs (prefix_at s as_word) (λ b x. x) laws (subst (AreImportsDerived Stands) i k)
+    import-all (λ b. IsLawDerived Stands b.origin b.sense) s.scope.env bs (prefix_at s.scope as_word) (λ b x. x) laws (subst (AreImportsDerived Stands) i k)

@@ -60,10 +60,10 @@ kept-few f (x ∷ xs) = go (f x) (kept-few f xs)
     go (Some y) h = omega arith
 
 -- a rewrite leads to no more terms than it has steps
-pub goals-few : (site : Site) (steps : List StepTree) → length (goals_at site steps) ≤ length (map (λ (step : StepTree). reason_at site step.reason) steps)
+pub goals-few : (site : Site) (steps : List StepTree) → length (goals_at site steps) ≤ length (map (λ (step : StepTree). reason_at site.scope step.reason) steps)
 goals-few site steps =
-    let few = kept-few (λ (step : StepTree). option_map (expansion_at site) step.goal) steps in
-    let same = length-map steps (λ (step : StepTree). reason_at site step.reason) in
+    let few = kept-few (λ (step : StepTree). option_map (expansion_at site.scope) step.goal) steps in
+    let same = length-map steps (λ (step : StepTree). reason_at site.scope step.reason) in
     omega arith
 
 -- a rewrite that is proved, with its tree
@@ -71,7 +71,7 @@ pub record ProvedSteps (site : Site) : Type 0 where
   pub name : ℕ
   pub first : TermTree
   pub steps : List StepTree
-  pub is_sentence : IsSentence site.tokens (rewrite name first steps)
+  pub is_sentence : IsSentence site.scope.words (rewrite name first steps)
   pub passes : Passes site (rewrite name first steps)
   pub all_good : AreGood (moves_at site (rewrite name first steps)) (length (moves_at site (rewrite name first steps)))
 
@@ -81,7 +81,7 @@ proved-steps site v e (refused {tree} t r) = absurd ((refused-bad site tree v r)
 proved-steps site v e (accepted t p n) = absurd cc
 proved-steps site v e (by_steps {name} {first} {steps} t p x) = go v x e
   where
-    go : (w : Verdict) → IsVerdictOnSteps (terms_of site (rewrite name first steps)) (steps_at site (rewrite name first steps)) (has_hole (rewrite name first steps)) w → w ≡ Proved
+    go : (w : Verdict) → IsVerdictOnSteps (terms_of site (rewrite name first steps)) (steps_at site.scope (rewrite name first steps)) (has_hole (rewrite name first steps)) w → w ≡ Proved
         → ProvedSteps site
     go w (not_built n) e = absurd cc
     go w (judged n (stops s)) e = absurd ((refusal-bad (s.k + 1) s.judged w s.refuses).0 e)
@@ -98,19 +98,19 @@ proved-follows known site env j first last is = go (proved-steps site Proved ref
     E : List Equation
     E = cited_by site mine
 
-    among : Passes site mine → All (IsAmong E) (steps_at site mine)
+    among : Passes site mine → All (IsAmong E) (steps_at site.scope mine)
     among p =
-        let usable : AreUsable (steps_at site mine) = reasons-usable site env mine p in
-        All-from (IsAmong E) (steps_at site mine) (λ r c. (
-          λ k d h. (All-contains (λ x. All IsUsable (rules_of x)) (steps_at site mine) r usable c k d h).0,
-          λ e d. Contains-flat_map rules_of (steps_at site mine) r e c d,
+        let usable : AreUsable (steps_at site.scope mine) = reasons-usable site env mine p in
+        All-from (IsAmong E) (steps_at site.scope mine) (λ r c. (
+          λ k d h. (All-contains (λ x. All IsUsable (rules_of x)) (steps_at site.scope mine) r usable c k d h).0,
+          λ e d. Contains-flat_map rules_of (steps_at site.scope mine) r e c d,
         ))
 
     go : ProvedSteps site → Derives E first last
     go q =
-        let trees : rewrite q.name q.first q.steps ≡ mine = known.trees site.tokens (rewrite q.name q.first q.steps) mine q.is_sentence is.is_sentence in
+        let trees : rewrite q.name q.first q.steps ≡ mine = known.trees site.scope.words (rewrite q.name q.first q.steps) mine q.is_sentence is.is_sentence in
         let p : Passes site mine = subst (Passes site) trees q.passes in
         let good : AreGood (moves_at site mine) (length (moves_at site mine)) = subst (λ x. AreGood (moves_at site x) (length (moves_at site x))) trees q.all_good in
-        let one : expansion_at site is.tree ≡ first = some-once (slice_get (terms_of site mine) 0) (expansion_at site is.tree) first refl is.is_first in
+        let one : expansion_at site.scope is.tree ≡ first = some-once (slice_get (terms_of site mine) 0) (expansion_at site.scope is.tree) first refl is.is_first in
         subst (λ m. Derives E m last) one
-        (walk E (expansion_at site is.tree) (goals_at site is.steps) (steps_at site mine) (goals-few site is.steps) (among p) (known.typed site env mine p) good last is.is_last)
+        (walk E (expansion_at site.scope is.tree) (goals_at site is.steps) (steps_at site.scope mine) (goals-few site is.steps) (among p) (known.typed site env mine p) good last is.is_last)

@@ -3,6 +3,7 @@ use Rattle.std.proofs.Common.{◌≡◌, false, List, [], ◌∷◌, ◌++◌, �
 use Rattle.chyp_lex.specs.Tokens.{HasOneTokenList}
 use Rattle.chyp_lex.specs.declared.token.Token.{Token}
 use Rattle.chyp_syntax.specs.Chunk.{HasOneListOfChunks}
+use Rattle.chyp_syntax.specs.Words.{Word}
 use Rattle.chyp_syntax.specs.Failing.{ArePrefixesClosed, HasOneTree, IsSentenceOrFails}
 use Rattle.chyp_syntax.specs.Statement.{StatementTree}
 use Rattle.chyp_env.specs.Environment.{Binding, is_bound}
@@ -20,7 +21,7 @@ TestsAreDecided = (tests : List Test) → AllHold tests ⊎ ((token : ℕ) × Fa
 
 -- a statement that nothing refuses, where names stand for sound things, has terms that are typed alike
 abbrev pub PassingTermsAreTyped : Type 0
-PassingTermsAreTyped = (s : Site) → IsSound s.env → (tree : StatementTree) → Passes s tree → AreTypedAlike (terms_of s tree)
+PassingTermsAreTyped = (s : Site) → IsSound s.scope.env → (tree : StatementTree) → Passes s tree → AreTypedAlike (terms_of s tree)
 
 -- names stay distinct where a new one is bound behind them
 abbrev pub NamesStayDistinct : Type 0
@@ -30,9 +31,9 @@ NamesStayDistinct = (env : List Binding) (b : Binding) → HasDistinctNames env 
 pub record Known : Type 0 where
   pub tokens : (text : List ℕ) → HasOneTokenList text
   pub chunks : (tokens : List Token) → HasOneListOfChunks tokens
-  pub sentences : (tokens : List Token) → IsSentenceOrFails tokens
-  pub prefixes : (tokens : List Token) → ArePrefixesClosed tokens
-  pub trees : (tokens : List Token) → HasOneTree tokens
+  pub sentences : (words : List Word) → IsSentenceOrFails words
+  pub prefixes : (words : List Word) → ArePrefixesClosed words
+  pub trees : (words : List Word) → HasOneTree words
   pub tests : TestsAreDecided
   pub typed : PassingTermsAreTyped
   pub names : NamesStayDistinct

@@ -4,12 +4,13 @@ use Rattle.std.proofs.lemmas.List.Elements.{All-nil}
 use Rattle.chyp_lex.specs.Tokens.{HasOneTokenList}
 use Rattle.chyp_lex.specs.declared.token.Token.{Token}
 use Rattle.chyp_syntax.specs.Chunk.{HasOneListOfChunks}
+use Rattle.chyp_syntax.specs.Words.{Word}
 use Rattle.chyp_syntax.specs.Failing.{ArePrefixesClosed, HasOneTree, IsSentenceOrFails}
 use Rattle.chyp_term.specs.Derivation.{IsEquation}
 use Rattle.chyp_term.specs.Morphism.{Morphism, cod, dom, IsTyped}
 use Rattle.chyp_theory.specs.Laws.{PermutationsAreDecided, SortsAreDecided}
 use Rattle.chyp_env.specs.Environment.{Sense, generator, abbreviation, law, unproved, broken}
-use Rattle.chyp_env.specs.Site.{term_of}
+use Rattle.chyp_env.specs.Scope.{term_of}
 use Rattle.chyp_env.specs.Sound.{IsSoundSense}
 use Rattle.chyp_env.specs.Typing.{Condition, Holds, permutes, meets, agrees}
 use Rattle.chyp_env.proofs.Envs.{distinct-push}
@@ -49,11 +50,11 @@ alike_all (t ∷ ts) alike = alike-each t (t ∷ ts) (alike t refl)
 -- where names stand for sound things, the terms of a statement that nothing refuses are typed alike
 passing_typed : PassingTermsAreTyped
 passing_typed s sound tree passes =
-    alike_all (terms_of s tree) (statement-alike s (meaning-typed s (λ k d h. sense-typed _ (sound.each k d h))) tree passes.typed)
+    alike_all (terms_of s tree) (statement-alike s (meaning-typed s.scope (λ k d h. sense-typed _ (sound.each k d h))) tree passes.typed)
 
 -- all of it
-pub known-of : ((text : List ℕ) → HasOneTokenList text) → ((tokens : List Token) → HasOneListOfChunks tokens) → ((tokens : List Token) → IsSentenceOrFails tokens)
-    → ((tokens : List Token) → ArePrefixesClosed tokens) → ((tokens : List Token) → HasOneTree tokens) → SortsAreDecided → PermutationsAreDecided → LawsAreDecided
+pub known-of : ((text : List ℕ) → HasOneTokenList text) → ((tokens : List Token) → HasOneListOfChunks tokens) → ((words : List Word) → IsSentenceOrFails words)
+    → ((words : List Word) → ArePrefixesClosed words) → ((words : List Word) → HasOneTree words) → SortsAreDecided → PermutationsAreDecided → LawsAreDecided
     → RewritesAreDecided → Known
 known-of tokens chunks sentences prefixes trees sorts permutations laws contexts = record {
   tokens = tokens;

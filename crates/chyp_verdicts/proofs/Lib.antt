@@ -12,6 +12,7 @@ pub mod SomeBinding
 pub mod Sound
 pub mod Follows
 pub mod Derived
+pub mod Sites
 pub mod Texts
 pub mod Explaining
 pub mod KnownBelow

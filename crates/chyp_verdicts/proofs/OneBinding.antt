@@ -2,8 +2,6 @@
 use Rattle.std.proofs.Common.{◌≡◌, ℕ, ◌-◌, ◌&&◌, if◌then◌else◌, IsTrue, List, [], ◌∷◌, ◌++◌, length, Option, Some, None, slice_get, refl, sym, ◌∙◌, ap, ap₂, subst}
 use Rattle.chyp_base.specs.declared.verdict.Verdict.{Verdict}
 use Rattle.chyp_base.specs.declared.verdict.Verdict.TheVariants.{Accepted}
-use Rattle.chyp_lex.specs.Tokens.{token_text}
-use Rattle.chyp_lex.specs.declared.token.Token.{Token}
 use Rattle.chyp_lex.specs.declared.token.TokenKind.{TokenKind}
 use Rattle.chyp_lex.specs.declared.token.TokenKind.TheVariants.{WordGen, WordLet, WordRule, WordRewrite, WordImport, WordShow}
 use Rattle.chyp_syntax.specs.Failing.{HasOneTree}
@@ -11,6 +9,7 @@ use Rattle.chyp_syntax.specs.Heading.{declared_name, declares, is_identifier}
 use Rattle.chyp_syntax.specs.Numbered.{NumberedToken, numbered, BeginsWithKind}
 use Rattle.chyp_syntax.specs.Sentence.{IsSentence, IsStatement, is_gen, is_let, is_rule, is_rewrite, is_import, is_import_as, is_show}
 use Rattle.chyp_syntax.specs.Statement.{StatementTree, generator as a_gen, definition, rule, rewrite, inclusion, showing}
+use Rattle.chyp_syntax.specs.Words.{Word}
 use Rattle.chyp_term.specs.Morphism.{Morphism, generator as a_generator}
 use Rattle.chyp_env.specs.Environment.{Sense, Binding, is_bound}
 use Rattle.chyp_env.specs.Import.{all_passed_on, new_in}
@@ -38,17 +37,17 @@ statement-begins tokens tree (is_import_as k n a p) = k
 statement-begins tokens tree (is_show k n) = k
 
 -- the first token of a sentence is its keyword
-pub sentence-begins : (tokens : List Token) (tree : StatementTree) → IsSentence tokens tree → (t : Token) × (rest : List Token) × (tokens ≡ t ∷ rest) × (t.kind ≡ keyword_of_tree tree)
+pub sentence-begins : (tokens : List Word) (tree : StatementTree) → IsSentence tokens tree → (t : Word) × (rest : List Word) × (tokens ≡ t ∷ rest) × (t.kind ≡ keyword_of_tree tree)
 sentence-begins [] tree s = absurd (statement-begins (numbered []) tree s.statement)
 sentence-begins (t ∷ ts) tree s = (t, ts, refl, statement-begins (numbered (t ∷ ts)) tree s.statement)
 
 -- a sentence is a rewrite exactly where its keyword is that of one
-pub sentence-is_rewrite : (tokens : List Token) (tree : StatementTree) → IsSentence tokens tree → IsRewrite tokens → keyword_of_tree tree ≡ WordRewrite
+pub sentence-is_rewrite : (tokens : List Word) (tree : StatementTree) → IsSentence tokens tree → IsRewrite tokens → keyword_of_tree tree ≡ WordRewrite
 sentence-is_rewrite tokens tree s r =
     let b = sentence-begins tokens tree s in
     sym b.3 ∙ subst IsRewrite b.2 r
 
-pub rewrite-begins : (tokens : List Token) (tree : StatementTree) → IsSentence tokens tree → keyword_of_tree tree ≡ WordRewrite → IsRewrite tokens
+pub rewrite-begins : (tokens : List Word) (tree : StatementTree) → IsSentence tokens tree → keyword_of_tree tree ≡ WordRewrite → IsRewrite tokens
 rewrite-begins tokens tree s e =
     let b = sentence-begins tokens tree s in
     subst IsRewrite (sym b.2) (b.3 ∙ e)
@@ -57,61 +56,61 @@ one-list : {A : Type 0} (x y a b : A) → ◌≡◌ {A = List A} (x ∷ []) (a �
 one-list x y a b e = cc
 
 -- what a name stands for is determined
-pub stands-once : ((tokens : List Token) → HasOneTree tokens) → (s : Site) (v : Verdict) (a b : Sense) → StandsFor s v a → StandsFor s v b → a ≡ b
+pub stands-once : ((tokens : List Word) → HasOneTree tokens) → (s : Site) (v : Verdict) (a b : Sense) → StandsFor s v a → StandsFor s v b → a ≡ b
 stands-once one s v a b (a_declared_generator {name} {dom} {cod} {label} {a = x} {b = y} t e) (a_declared_generator {name = n} {dom = d} {cod = c} {label = l} {a = z} {b = w} u f) =
-    let trees = one s.tokens (a_gen name dom cod) (a_gen n d c) t u in
+    let trees = one s.scope.words (a_gen name dom cod) (a_gen n d c) t u in
     let both : ◌≡◌ {A = List Morphism} (a_generator label x y ∷ []) (a_generator l z w ∷ []) = sym e ∙ ap (terms_of s) trees ∙ f in
     cc
-stands-once one s v a b (a_declared_generator t e) (a_term u f) = let trees = one s.tokens _ _ t u in absurd cc
-stands-once one s v a b (a_declared_generator t e) (a_rule u f) = let trees = one s.tokens _ _ t u in absurd cc
-stands-once one s v a b (a_declared_generator t e) (an_unproved_rewrite r p) = let k = sentence-is_rewrite s.tokens _ t r in absurd cc
+stands-once one s v a b (a_declared_generator t e) (a_term u f) = let trees = one s.scope.words _ _ t u in absurd cc
+stands-once one s v a b (a_declared_generator t e) (a_rule u f) = let trees = one s.scope.words _ _ t u in absurd cc
+stands-once one s v a b (a_declared_generator t e) (an_unproved_rewrite r p) = let k = sentence-is_rewrite s.scope.words _ t r in absurd cc
 stands-once one s v a b (a_declared_generator t e) (a_broken_statement r p) = absurd (p refl)
-stands-once one s v a b (a_term t e) (a_declared_generator u f) = let trees = one s.tokens _ _ t u in absurd cc
+stands-once one s v a b (a_term t e) (a_declared_generator u f) = let trees = one s.scope.words _ _ t u in absurd cc
 stands-once one s v a b (a_term {name} {tree} {term} t e) (a_term {name = n} {tree = r} {term = m} u f) =
-    let trees = one s.tokens (definition name tree) (definition n r) t u in
+    let trees = one s.scope.words (definition name tree) (definition n r) t u in
     let both : ◌≡◌ {A = List Morphism} (term ∷ []) (m ∷ []) = sym e ∙ ap (terms_of s) trees ∙ f in
     cc
-stands-once one s v a b (a_term t e) (a_rule u f) = let trees = one s.tokens _ _ t u in absurd cc
-stands-once one s v a b (a_term t e) (an_unproved_rewrite r p) = let k = sentence-is_rewrite s.tokens _ t r in absurd cc
+stands-once one s v a b (a_term t e) (a_rule u f) = let trees = one s.scope.words _ _ t u in absurd cc
+stands-once one s v a b (a_term t e) (an_unproved_rewrite r p) = let k = sentence-is_rewrite s.scope.words _ t r in absurd cc
 stands-once one s v a b (a_term t e) (a_broken_statement r p) = absurd (p refl)
-stands-once one s v a b (a_rule t e) (a_declared_generator u f) = let trees = one s.tokens _ _ t u in absurd cc
-stands-once one s v a b (a_rule t e) (a_term u f) = let trees = one s.tokens _ _ t u in absurd cc
+stands-once one s v a b (a_rule t e) (a_declared_generator u f) = let trees = one s.scope.words _ _ t u in absurd cc
+stands-once one s v a b (a_rule t e) (a_term u f) = let trees = one s.scope.words _ _ t u in absurd cc
 stands-once one s v a b (a_rule {name} {equals} {left} {right} {first} {last} t e) (a_rule {name = n} {equals = q} {left = l} {right = r} {first = x} {last = y} u f) =
-    let trees = one s.tokens (rule name left equals right) (rule n l q r) t u in
+    let trees = one s.scope.words (rule name left equals right) (rule n l q r) t u in
     let both : ◌≡◌ {A = List Morphism} (first ∷ last ∷ []) (x ∷ y ∷ []) = sym e ∙ ap (terms_of s) trees ∙ f in
     cc
-stands-once one s v a b (a_rule t e) (an_unproved_rewrite r p) = let k = sentence-is_rewrite s.tokens _ t r in absurd cc
+stands-once one s v a b (a_rule t e) (an_unproved_rewrite r p) = let k = sentence-is_rewrite s.scope.words _ t r in absurd cc
 stands-once one s v a b (a_rule t e) (a_broken_statement r p) = absurd (p refl)
 stands-once one s v a b (a_proved_rewrite {name} {tree} {steps} {first} {last} t e g) (a_proved_rewrite {name = n} {tree = r} {steps = c} {first = x} {last = y} u f h) =
-    let trees = one s.tokens (rewrite name tree steps) (rewrite n r c) t u in
+    let trees = one s.scope.words (rewrite name tree steps) (rewrite n r c) t u in
     let terms = ap (terms_of s) trees in
     let firsts : first ≡ x = some-once _ first x e (ap (λ ts. slice_get ts 0) terms ∙ f) in
     let lasts : last ≡ y = some-once _ last y g (ap (λ ts. slice_get ts (length ts - 1)) terms ∙ h) in
     cc
 stands-once one s v a b (a_proved_rewrite t e g) (an_unproved_rewrite r p) = absurd (p refl)
-stands-once one s v a b (a_proved_rewrite t e g) (a_broken_statement r p) = absurd (r (rewrite-begins s.tokens _ t refl))
-stands-once one s v a b (an_unproved_rewrite r p) (a_declared_generator t e) = let k = sentence-is_rewrite s.tokens _ t r in absurd cc
-stands-once one s v a b (an_unproved_rewrite r p) (a_term t e) = let k = sentence-is_rewrite s.tokens _ t r in absurd cc
-stands-once one s v a b (an_unproved_rewrite r p) (a_rule t e) = let k = sentence-is_rewrite s.tokens _ t r in absurd cc
+stands-once one s v a b (a_proved_rewrite t e g) (a_broken_statement r p) = absurd (r (rewrite-begins s.scope.words _ t refl))
+stands-once one s v a b (an_unproved_rewrite r p) (a_declared_generator t e) = let k = sentence-is_rewrite s.scope.words _ t r in absurd cc
+stands-once one s v a b (an_unproved_rewrite r p) (a_term t e) = let k = sentence-is_rewrite s.scope.words _ t r in absurd cc
+stands-once one s v a b (an_unproved_rewrite r p) (a_rule t e) = let k = sentence-is_rewrite s.scope.words _ t r in absurd cc
 stands-once one s v a b (an_unproved_rewrite r p) (a_proved_rewrite t e g) = absurd (p refl)
 stands-once one s v a b (an_unproved_rewrite r p) (an_unproved_rewrite q o) = refl
 stands-once one s v a b (an_unproved_rewrite r p) (a_broken_statement q o) = absurd (q r)
 stands-once one s v a b (a_broken_statement r p) (a_declared_generator t e) = absurd (p refl)
 stands-once one s v a b (a_broken_statement r p) (a_term t e) = absurd (p refl)
 stands-once one s v a b (a_broken_statement r p) (a_rule t e) = absurd (p refl)
-stands-once one s v a b (a_broken_statement r p) (a_proved_rewrite t e g) = absurd (r (rewrite-begins s.tokens _ t refl))
+stands-once one s v a b (a_broken_statement r p) (a_proved_rewrite t e g) = absurd (r (rewrite-begins s.scope.words _ t refl))
 stands-once one s v a b (a_broken_statement r p) (an_unproved_rewrite q o) = absurd (r q)
 stands-once one s v a b (a_broken_statement r p) (a_broken_statement q o) = refl
 
-import-declares : (text : List ℕ) (keyword : Token) (rest : List Token) → keyword.kind ≡ WordImport → declared_name text (keyword ∷ rest) ≡ None
-import-declares text keyword [] e = refl
-import-declares text keyword (name ∷ rest) e = ap (λ k. if declares k && is_identifier name.kind then Some (token_text text name) else None) e
+import-declares : (keyword : Word) (rest : List Word) → keyword.kind ≡ WordImport → declared_name (keyword ∷ rest) ≡ None
+import-declares keyword [] e = refl
+import-declares keyword (name ∷ rest) e = ap (λ k. if declares k && is_identifier name.kind then Some name.bytes else None) e
 
 -- an import declares no name
-pub imports-nothing : (s : Site) (imported : ℕ) (prefix : Option ℕ) (declares : List ℕ) → IsSentence s.tokens (inclusion imported prefix) → declared_name s.text s.tokens ≡ Some declares → ⊥
+pub imports-nothing : (s : Site) (imported : ℕ) (prefix : Option ℕ) (declares : List ℕ) → IsSentence s.scope.words (inclusion imported prefix) → declared_name s.scope.words ≡ Some declares → ⊥
 imports-nothing s imported prefix declares t e =
-    let b = sentence-begins s.tokens (inclusion imported prefix) t in
-    none-some _ declares (import-declares s.text b.0 b.1 b.3) (ap (declared_name s.text) (sym b.2) ∙ e)
+    let b = sentence-begins s.scope.words (inclusion imported prefix) t in
+    none-some _ declares (import-declares b.0 b.1 b.3) (ap declared_name (sym b.2) ∙ e)
 
 takes-in : (i : Imported) (v : Verdict) (env : List Binding) → i ≡ there env → v ≡ Accepted → TakesIn i v
 takes-in i v env e f = subst (λ x. TakesIn x v) (sym e) (subst (TakesIn (there env)) (sym f) tt)
@@ -123,7 +122,7 @@ there-once : (env end : List Binding) → there env ≡ there end → env ≡ en
 there-once env end e = cc
 
 -- a statement binds in one way
-pub binds-once : ((tokens : List Token) → HasOneTree tokens) → (s : Site) (n : ℕ) (v : Verdict) (a b : List Binding) → Binds s n v a → Binds s n v b → a ≡ b
+pub binds-once : ((tokens : List Word) → HasOneTree tokens) → (s : Site) (n : ℕ) (v : Verdict) (a b : List Binding) → Binds s n v a → Binds s n v b → a ≡ b
 binds-once one s n v a b (nothing e o) (nothing f q) = refl
 binds-once one s n v a b (nothing e o) (again {name} f i) = absurd (none-some _ name e f)
 binds-once one s n v a b (nothing e o) (anew {name} f i t) = absurd (none-some _ name e f)
@@ -134,19 +133,19 @@ binds-once one s n v a b (imports {word} {as_word} f t i) (anew {name} e g x) = 
 binds-once one s n v a b (again {name} e g) (imports {word} {as_word} f t i) = absurd (imports-nothing s word as_word name t e)
 binds-once one s n v a b (anew {name} e g x) (imports {word} {as_word} f t i) = absurd (imports-nothing s word as_word name t e)
 binds-once one s n v a b (imports {word} {as_word} {env} f t i) (imports {word = w} {as_word = p} {env = end} g u j) =
-    let prefixes = inclusion-prefix word w as_word p (one s.tokens (inclusion word as_word) (inclusion w p) t u) in
+    let prefixes = inclusion-prefix word w as_word p (one s.scope.words (inclusion word as_word) (inclusion w p) t u) in
     let envs = there-once env end (sym i ∙ j) in
-    ap₂ (λ x y. s.env ++ new_in s.env (all_passed_on (prefix_at s x) y)) prefixes envs
+    ap₂ (λ x y. s.scope.env ++ new_in s.scope.env (all_passed_on (prefix_at s.scope x) y)) prefixes envs
 binds-once one s n v a b (again {name} f i) (nothing e o) = absurd (none-some _ name e f)
 binds-once one s n v a b (again f i) (again g j) = refl
 binds-once one s n v a b (again {name} f i) (anew {name = other} g j t) =
-    let same = some-once (declared_name s.text s.tokens) name other f g in
-    absurd (true-false (is_bound s.env other) (subst (λ x. IsTrue (is_bound s.env x)) same i) j)
+    let same = some-once (declared_name s.scope.words) name other f g in
+    absurd (true-false (is_bound s.scope.env other) (subst (λ x. IsTrue (is_bound s.scope.env x)) same i) j)
 binds-once one s n v a b (anew {name} f i t) (nothing e o) = absurd (none-some _ name e f)
 binds-once one s n v a b (anew {name} f i t) (again {name = other} g j) =
-    let same = some-once (declared_name s.text s.tokens) other name g f in
-    absurd (true-false (is_bound s.env name) (subst (λ x. IsTrue (is_bound s.env x)) same j) i)
+    let same = some-once (declared_name s.scope.words) other name g f in
+    absurd (true-false (is_bound s.scope.env name) (subst (λ x. IsTrue (is_bound s.scope.env x)) same j) i)
 binds-once one s n v a b (anew {name} {sense} f i t) (anew {name = other} {sense = meant} g j u) =
-    let same = some-once (declared_name s.text s.tokens) name other f g in
+    let same = some-once (declared_name s.scope.words) name other f g in
     let senses = stands-once one s v sense meant t u in
-    ap₂ (λ x y. s.env ++ record { name = x; origin = (s.home, n); sense = y } ∷ []) same senses
+    ap₂ (λ x y. s.scope.env ++ record { name = x; origin = (s.home, n); sense = y } ∷ []) same senses

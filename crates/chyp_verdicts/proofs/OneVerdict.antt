@@ -10,7 +10,8 @@ use Rattle.chyp_syntax.specs.Sentence.{IsPrefix}
 use Rattle.chyp_syntax.specs.Statement.{StatementTree, rewrite}
 use Rattle.chyp_term.specs.Morphism.{Morphism}
 use Rattle.chyp_term.specs.Step.{Reason}
-use Rattle.chyp_env.specs.Site.{Site, is_declared}
+use Rattle.chyp_env.specs.Scope.{is_declared}
+use Rattle.chyp_env.specs.Site.{Site}
 use Rattle.chyp_env.specs.Typing.{AllHold, FailsFirst, Holds, Test}
 use Rattle.chyp_names.specs.Elaboration.{Passes, IsRefused, declared, at_import, at_name, too_big, mistyped, unproved, tests_at, has_hole, import_fault, steps_at, terms_of}
 use Rattle.chyp_names.specs.Naming.{first_fault, first_unproved}
@@ -72,12 +73,12 @@ fails-first-once tests j k f g = go (cases_lt f.number g.number) (cases_lt g.num
 
 -- what nothing refuses is not refused
 pub passes-refused : (site : Site) (tree : StatementTree) (v : Verdict) → Passes site tree → IsRefused site tree v → ⊥
-passes-refused site tree v p (declared d) = true-false (is_declared site) d p.fresh
+passes-refused site tree v p (declared d) = true-false (is_declared site.scope) d p.fresh
 passes-refused site tree v p (at_import f i) = none-some (import_fault site tree) v p.fits i
-passes-refused site tree v p (at_name f i e) = none-some (first_fault site tree) v p.known e
+passes-refused site tree v p (at_name f i e) = none-some (first_fault site.scope tree) v p.known e
 passes-refused site tree v p (too_big f i e b) = b p.small
-passes-refused site tree v p (mistyped {token} f i e b t) = holds-fails (tests_at site tree) token p.typed t
-passes-refused site tree v p (unproved {token} f i e b t u) = none-some (first_unproved site tree) token p.proved u
+passes-refused site tree v p (mistyped {token} f i e b t) = holds-fails (tests_at site.scope tree) token p.typed t
+passes-refused site tree v p (unproved {token} f i e b t u) = none-some (first_unproved site.scope tree) token p.proved u
 
 pub refused-once : (site : Site) (tree : StatementTree) (v w : Verdict) → IsRefused site tree v → IsRefused site tree w → v ≡ w
 refused-once site tree v w (declared d) (declared e) = refl
@@ -94,7 +95,7 @@ refused-once site tree v w (at_import f i) (mistyped g j e b t) = absurd (none-s
 refused-once site tree v w (at_import f i) (unproved g j e b t u) = absurd (none-some _ _ j i)
 refused-once site tree v w (at_name f i e) (declared d) = absurd (true-false _ d f)
 refused-once site tree v w (at_name f i e) (at_import g j) = absurd (none-some _ _ i j)
-refused-once site tree v w (at_name f i e) (at_name g j h) = some-once (first_fault site tree) v w e h
+refused-once site tree v w (at_name f i e) (at_name g j h) = some-once (first_fault site.scope tree) v w e h
 refused-once site tree v w (at_name f i e) (too_big g j h b) = absurd (none-some _ _ h e)
 refused-once site tree v w (at_name f i e) (mistyped g j h b t) = absurd (none-some _ _ h e)
 refused-once site tree v w (at_name f i e) (unproved g j h b t u) = absurd (none-some _ _ h e)
@@ -108,14 +109,14 @@ refused-once site tree v w (mistyped f i e b t) (declared d) = absurd (true-fals
 refused-once site tree v w (mistyped f i e b t) (at_import g j) = absurd (none-some _ _ i j)
 refused-once site tree v w (mistyped f i e b t) (at_name g j h) = absurd (none-some _ _ e h)
 refused-once site tree v w (mistyped f i e b t) (too_big g j h c) = absurd (c b)
-refused-once site tree v w (mistyped {token} f i e b t) (mistyped {token = other} g j h c u) = ap Mistyped (fails-first-once (tests_at site tree) token other t u)
-refused-once site tree v w (mistyped {token} f i e b t) (unproved g j h c u x) = absurd (holds-fails (tests_at site tree) token u t)
+refused-once site tree v w (mistyped {token} f i e b t) (mistyped {token = other} g j h c u) = ap Mistyped (fails-first-once (tests_at site.scope tree) token other t u)
+refused-once site tree v w (mistyped {token} f i e b t) (unproved g j h c u x) = absurd (holds-fails (tests_at site.scope tree) token u t)
 refused-once site tree v w (unproved f i e b t u) (declared d) = absurd (true-false _ d f)
 refused-once site tree v w (unproved f i e b t u) (at_import g j) = absurd (none-some _ _ i j)
 refused-once site tree v w (unproved f i e b t u) (at_name g j h) = absurd (none-some _ _ e h)
 refused-once site tree v w (unproved f i e b t u) (too_big g j h c) = absurd (c b)
-refused-once site tree v w (unproved f i e b t u) (mistyped {token} g j h c x) = absurd (holds-fails (tests_at site tree) token t x)
-refused-once site tree v w (unproved {token} f i e b t u) (unproved {token = other} g j h c x y) = ap Unproved (some-once (first_unproved site tree) token other u y)
+refused-once site tree v w (unproved f i e b t u) (mistyped {token} g j h c x) = absurd (holds-fails (tests_at site.scope tree) token t x)
+refused-once site tree v w (unproved {token} f i e b t u) (unproved {token = other} g j h c x y) = ap Unproved (some-once (first_unproved site.scope tree) token other u y)
 
 -- ---- steps
 
@@ -160,32 +161,32 @@ steps-once terms reasons hole v w (judged n x) (judged m y) = moves-once (moves_
 -- the verdict on the steps of a rewrite
 abbrev on_tree : Site → Verdict → StatementTree → Type 0
 on_tree site v (rewrite name first steps) =
-    IsVerdictOnSteps (terms_of site (rewrite name first steps)) (steps_at site (rewrite name first steps)) (has_hole (rewrite name first steps)) v
+    IsVerdictOnSteps (terms_of site (rewrite name first steps)) (steps_at site.scope (rewrite name first steps)) (has_hole (rewrite name first steps)) v
 on_tree site v _ = ⊥
 
 -- a statement has one verdict
 pub judged-once : Known → (site : Site) (v w : Verdict) → IsJudged site v → IsJudged site w → v ≡ w
-judged-once known site v w (no_sentence {k = j} f) (no_sentence {k = k} g) = ap Syntax (fails-once known.prefixes site.tokens j k f g)
+judged-once known site v w (no_sentence {k = j} f) (no_sentence {k = k} g) = ap Syntax (fails-once known.prefixes site.scope.words j k f g)
 judged-once known site v w (no_sentence f) (refused {tree} s r) = absurd (f.no_sentence tree s)
 judged-once known site v w (no_sentence f) (accepted {tree} s p n) = absurd (f.no_sentence tree s)
 judged-once known site v w (no_sentence f) (by_steps {name} {first} {steps} s p x) = absurd (f.no_sentence (rewrite name first steps) s)
 judged-once known site v w (refused {tree} s r) (no_sentence f) = absurd (f.no_sentence tree s)
 judged-once known site v w (refused {tree} s r) (refused {tree = other} t q) =
-    refused-once site tree v w r (subst (λ x. IsRefused site x w) (known.trees site.tokens other tree t s) q)
+    refused-once site tree v w r (subst (λ x. IsRefused site x w) (known.trees site.scope.words other tree t s) q)
 judged-once known site v w (refused {tree} s r) (accepted {tree = other} t p n) =
-    absurd (passes-refused site tree v (subst (Passes site) (known.trees site.tokens other tree t s) p) r)
+    absurd (passes-refused site tree v (subst (Passes site) (known.trees site.scope.words other tree t s) p) r)
 judged-once known site v w (refused {tree} s r) (by_steps {name} {first} {steps} t p x) =
-    absurd (passes-refused site tree v (subst (Passes site) (known.trees site.tokens (rewrite name first steps) tree t s) p) r)
+    absurd (passes-refused site tree v (subst (Passes site) (known.trees site.scope.words (rewrite name first steps) tree t s) p) r)
 judged-once known site v w (accepted {tree} s p n) (no_sentence f) = absurd (f.no_sentence tree s)
 judged-once known site v w (accepted {tree} s p n) (refused {tree = other} t r) =
-    absurd (passes-refused site other w (subst (Passes site) (known.trees site.tokens tree other s t) p) r)
+    absurd (passes-refused site other w (subst (Passes site) (known.trees site.scope.words tree other s t) p) r)
 judged-once known site v w (accepted s p n) (accepted t q m) = refl
 judged-once known site v w (accepted {tree} s p n) (by_steps {name} {first} {steps} t q x) =
-    absurd (false≢true (sym (subst (λ y. is_rewrite y ≡ false) (known.trees site.tokens tree (rewrite name first steps) s t) n)))
+    absurd (false≢true (sym (subst (λ y. is_rewrite y ≡ false) (known.trees site.scope.words tree (rewrite name first steps) s t) n)))
 judged-once known site v w (by_steps {name} {first} {steps} s p x) (no_sentence f) = absurd (f.no_sentence (rewrite name first steps) s)
 judged-once known site v w (by_steps {name} {first} {steps} s p x) (refused {tree = other} t r) =
-    absurd (passes-refused site other w (subst (Passes site) (known.trees site.tokens (rewrite name first steps) other s t) p) r)
+    absurd (passes-refused site other w (subst (Passes site) (known.trees site.scope.words (rewrite name first steps) other s t) p) r)
 judged-once known site v w (by_steps {name} {first} {steps} s p x) (accepted {tree} t q n) =
-    absurd (false≢true (sym (subst (λ y. is_rewrite y ≡ false) (known.trees site.tokens tree (rewrite name first steps) t s) n)))
+    absurd (false≢true (sym (subst (λ y. is_rewrite y ≡ false) (known.trees site.scope.words tree (rewrite name first steps) t s) n)))
 judged-once known site v w (by_steps {name} {first} {steps} s p x) (by_steps {name = a} {first = b} {steps = c} t q y) =
-    steps-once (terms_of site (rewrite name first steps)) (steps_at site (rewrite name first steps)) (has_hole (rewrite name first steps)) v w x (subst (on_tree site w) (known.trees site.tokens (rewrite a b c) (rewrite name first steps) t s) y)
+    steps-once (terms_of site (rewrite name first steps)) (steps_at site.scope (rewrite name first steps)) (has_hole (rewrite name first steps)) v w x (subst (on_tree site w) (known.trees site.scope.words (rewrite a b c) (rewrite name first steps) t s) y)

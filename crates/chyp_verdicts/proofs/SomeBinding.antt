@@ -6,15 +6,14 @@ use Rattle.chyp_base.specs.Sort.{plain}
 use Rattle.chyp_base.specs.declared.verdict.Verdict.{Verdict}
 use Rattle.chyp_base.specs.declared.verdict.Verdict.TheVariants.{Proved, Accepted, Clash, Unfinished}
 use Rattle.chyp_base.specs.declared.verdict.Verdict.TheVariants as verdict
-use Rattle.chyp_lex.specs.declared.token.Token.{Token}
 use Rattle.chyp_lex.specs.declared.token.TokenKind.TheVariants.{WordRewrite, WordShow}
 use Rattle.chyp_syntax.specs.Expected.{same_kind}
-use Rattle.chyp_syntax.specs.Heading.{declared_name, declares, is_identifier, text_at}
-use Rattle.chyp_lex.specs.Tokens.{token_text}
+use Rattle.chyp_syntax.specs.Heading.{declared_name, declares, is_identifier}
 use Rattle.chyp_syntax.specs.Sentence.{IsSentence}
 use Rattle.chyp_syntax.specs.Statement.{StatementTree, generator as a_gen, definition, rule, rewrite, inclusion, showing}
 use Rattle.chyp_syntax.specs.Step.{StepTree}
 use Rattle.chyp_syntax.specs.Term.{TermTree}
+use Rattle.chyp_syntax.specs.Words.{Word, bytes_at}
 use Rattle.chyp_term.specs.Derivation.{IsEquation}
 use Rattle.chyp_term.specs.Morphism.{Morphism}
 use Rattle.chyp_term.specs.Step.{Reason}
@@ -23,7 +22,8 @@ use Rattle.chyp_env.specs.Environment.{Sense, generator, abbreviation, law, unpr
 use Rattle.chyp_term.specs.Limits.{IsWithinLimits}
 use Rattle.std.specs.Option.{option_map}
 use Rattle.chyp_env.specs.Import.{all_passed_on, first_clash}
-use Rattle.chyp_env.specs.Site.{Imported, nothing, absent, on_cycle, there, Site, binding_at}
+use Rattle.chyp_env.specs.Scope.{binding_at}
+use Rattle.chyp_env.specs.Site.{Imported, nothing, absent, on_cycle, there, Site}
 use Rattle.chyp_env.specs.Sound.{IsSound, IsSoundSense}
 use Rattle.chyp_names.specs.Binding.{IsRewrite, StandsFor, a_declared_generator, a_term, a_rule, a_proved_rewrite, an_unproved_rewrite, a_broken_statement}
 use Rattle.chyp_names.specs.Elaboration.{Passes, IsRefused, fault_of_module, import_fault, prefix_at, declared, at_import, at_name, too_big, mistyped, unproved as rests_on_unproved, expansion_at, generator_name, terms_of}
@@ -75,10 +75,10 @@ bound-fault : (fault : Sense → ℕ → Option Verdict) → ((sense : Sense) (t
 bound-fault fault bad None token v e = this _ v refl e
 bound-fault fault bad (Some b) token v e = bad b.sense token v e
 
-use-fault : (s : Site) (use' : Use) (v : Verdict) → fault_of s use' ≡ Some v → is_refusal v ≡ true
-use-fault s (in_term token) v e = bound-fault fault_in_term term-fault (binding_at s token) token v e
-use-fault s (in_reason token) v e = bound-fault fault_in_reason reason-fault (binding_at s token) token v e
-use-fault s (in_show token) v e = bound-fault (λ sense at. None) (λ sense at w f. absurd cc) (binding_at s token) token v e
+use-fault : (s : Site) (use' : Use) (v : Verdict) → fault_of s.scope use' ≡ Some v → is_refusal v ≡ true
+use-fault s (in_term token) v e = bound-fault fault_in_term term-fault (binding_at s.scope token) token v e
+use-fault s (in_reason token) v e = bound-fault fault_in_reason reason-fault (binding_at s.scope token) token v e
+use-fault s (in_show token) v e = bound-fault (λ sense at. None) (λ sense at w f. absurd cc) (binding_at s.scope token) token v e
 
 -- the first that a filter keeps comes from some item
 first-kept : {A : Type 0} (f : A → Option Verdict) (xs : List A) (v : Verdict) → ((x : A) → f x ≡ Some v → is_refusal v ≡ true) → slice_get (filter_map f xs) 0 ≡ Some v → is_refusal v ≡ true
@@ -100,7 +100,7 @@ module-bad env (there bindings) prefix v e = go (first_clash env (all_passed_on 
     go (Some name) f = this _ v refl f
 
 import-bad : (s : Site) (tree : StatementTree) (v : Verdict) → import_fault s tree ≡ Some v → is_refusal v ≡ true
-import-bad s (inclusion imported prefix) v e = module-bad s.env s.imported (prefix_at s prefix) v e
+import-bad s (inclusion imported prefix) v e = module-bad s.scope.env s.imported (prefix_at s.scope prefix) v e
 import-bad s (a_gen name dom cod) v e = absurd cc
 import-bad s (definition name tree) v e = absurd cc
 import-bad s (rule name left equals right) v e = absurd cc
@@ -111,7 +111,7 @@ import-bad s (showing name) v e = absurd cc
 pub refused-is : (s : Site) (tree : StatementTree) (v : Verdict) → IsRefused s tree v → is_refusal v ≡ true
 refused-is s tree v (declared d) = refl
 refused-is s tree v (at_import f i) = import-bad s tree v i
-refused-is s tree v (at_name f i e) = first-kept (fault_of s) (uses_of tree) v (λ u h. use-fault s u v h) e
+refused-is s tree v (at_name f i e) = first-kept (fault_of s.scope) (uses_of tree) v (λ u h. use-fault s u v h) e
 refused-is s tree v (too_big f i e b) = refl
 refused-is s tree v (mistyped f i e b t) = refl
 refused-is s tree v (rests_on_unproved f i e b t u) = refl
@@ -123,7 +123,7 @@ refused-bad s tree v r =
     (λ p. false≢true (sym (ap is_refusal p) ∙ is), λ p. false≢true (sym (ap is_refusal p) ∙ is))
 
 -- tokens begin a rewrite, or they don't
-rewrite_or_not : (tokens : List Token) → IsRewrite tokens ⊎ ¬ IsRewrite tokens
+rewrite_or_not : (tokens : List Word) → IsRewrite tokens ⊎ ¬ IsRewrite tokens
 rewrite_or_not [] = inr (λ h. h)
 rewrite_or_not (t ∷ ts) = go (same_kind t.kind WordRewrite) refl
   where
@@ -133,7 +133,7 @@ rewrite_or_not (t ∷ ts) = go (same_kind t.kind WordRewrite) refl
 
 -- the terms that the steps of a rewrite lead to
 abbrev pub goals_at : Site → List StepTree → List Morphism
-goals_at site steps = filter_map (λ step. option_map (expansion_at site) step.goal) steps
+goals_at site steps = filter_map (λ step. option_map (expansion_at site.scope) step.goal) steps
 
 -- what a name stands for, and that it is sound
 pub record SomeSense (s : Site) (v : Verdict) : Type 0 where
@@ -143,9 +143,9 @@ pub record SomeSense (s : Site) (v : Verdict) : Type 0 where
 
 -- the name of a statement that isn't good
 bad-sense : (s : Site) (v : Verdict) → IsBad v → SomeSense s v
-bad-sense s v bad = go (rewrite_or_not s.tokens)
+bad-sense s v bad = go (rewrite_or_not s.scope.words)
   where
-    go : IsRewrite s.tokens ⊎ ¬ IsRewrite s.tokens → SomeSense s v
+    go : IsRewrite s.scope.words ⊎ ¬ IsRewrite s.scope.words → SomeSense s v
     go (inl r) = record { sense = unproved; stands = an_unproved_rewrite r bad.0; sound = tt }
     go (inr r) = record { sense = broken; stands = a_broken_statement r bad.1; sound = tt }
 
@@ -153,15 +153,15 @@ length-replicate : {A : Type 0} (n : ℕ) (x : A) → length (replicate n x) ≡
 length-replicate zero x = refl
 length-replicate (suc n) x = ap suc (length-replicate n x)
 
-show-declares : (text : List ℕ) (keyword : Token) (rest : List Token) → keyword.kind ≡ WordShow → declared_name text (keyword ∷ rest) ≡ None
-show-declares text keyword [] e = refl
-show-declares text keyword (name ∷ rest) e = ap (λ k. if declares k && is_identifier name.kind then Some (token_text text name) else None) e
+show-declares : (keyword : Word) (rest : List Word) → keyword.kind ≡ WordShow → declared_name (keyword ∷ rest) ≡ None
+show-declares keyword [] e = refl
+show-declares keyword (name ∷ rest) e = ap (λ k. if declares k && is_identifier name.kind then Some name.bytes else None) e
 
 -- a statement that shows something declares no name
-shows-nothing : (s : Site) (name : ℕ) (declares : List ℕ) → IsSentence s.tokens (showing name) → declared_name s.text s.tokens ≡ Some declares → ⊥
+shows-nothing : (s : Site) (name : ℕ) (declares : List ℕ) → IsSentence s.scope.words (showing name) → declared_name s.scope.words ≡ Some declares → ⊥
 shows-nothing s name declares t e =
-    let b = sentence-begins s.tokens (showing name) t in
-    none-some _ declares (show-declares s.text b.0 b.1 b.3) (ap (declared_name s.text) (sym b.2) ∙ e)
+    let b = sentence-begins s.scope.words (showing name) t in
+    none-some _ declares (show-declares b.0 b.1 b.3) (ap declared_name (sym b.2) ∙ e)
 
 -- some terms have a last one
 pub last-there : (t : Morphism) (ts : List Morphism) → (l : Morphism) × (slice_get (t ∷ ts) (length (t ∷ ts) - 1) ≡ Some l)
@@ -186,12 +186,12 @@ steps-bad terms reasons hole v (judged n (unfinished g o)) = inr (λ p. absurd c
 steps-bad terms reasons hole v (judged n (proved g o)) = inl refl
 
 -- the name of a rewrite that nothing refuses
-steps-sense : (s : Site) (name : ℕ) (tree : TermTree) (steps : List StepTree) (v : Verdict) → IsSentence s.tokens (rewrite name tree steps) → Passes s (rewrite name tree steps)
+steps-sense : (s : Site) (name : ℕ) (tree : TermTree) (steps : List StepTree) (v : Verdict) → IsSentence s.scope.words (rewrite name tree steps) → Passes s (rewrite name tree steps)
     → AreTypedAlike (terms_of s (rewrite name tree steps)) → (v ≡ Proved) ⊎ IsBad v → SomeSense s v
 steps-sense s name tree steps v t p alike (inr bad) = bad-sense s v bad
 steps-sense s name tree steps v t p alike (inl is) =
     let terms = terms_of s (rewrite name tree steps) in
-    let first = expansion_at s tree in
+    let first = expansion_at s.scope tree in
     let there : (l : Morphism) × (slice_get terms (length terms - 1) ≡ Some l) = last-there first (goals_at s steps) in
     let last = there.0 in
     let b = slice_get-read terms (length terms - 1) last there.1 in
@@ -203,31 +203,31 @@ steps-sense s name tree steps v t p alike (inl is) =
     }
 
 -- a statement that has its verdict and declares a name gives it a sense
-pub some-sense : PassingTermsAreTyped → (s : Site) → IsSound s.env → (v : Verdict) (name : List ℕ) → declared_name s.text s.tokens ≡ Some name → IsJudged s v → SomeSense s v
+pub some-sense : PassingTermsAreTyped → (s : Site) → IsSound s.scope.env → (v : Verdict) (name : List ℕ) → declared_name s.scope.words ≡ Some name → IsJudged s v → SomeSense s v
 some-sense typed s env v name e (no_sentence f) = bad-sense s v (λ p. absurd cc, λ p. absurd cc)
 some-sense typed s env v name e (refused {tree} t r) = bad-sense s v (refused-bad s tree v r)
 some-sense typed s env v name e (by_steps {name = n} {first} {steps} t p x) = steps-sense s n first steps v t p (typed s env (rewrite n first steps) p) (steps-bad _ _ _ v x)
 some-sense typed s env v name e (accepted {tree} t p n) = go tree t p n
   where
-    go : (tree : StatementTree) → IsSentence s.tokens tree → Passes s tree → is_rewrite tree ≡ false → SomeSense s Accepted
+    go : (tree : StatementTree) → IsSentence s.scope.words tree → Passes s tree → is_rewrite tree ≡ false → SomeSense s Accepted
     go (a_gen n dom cod) t p m = record {
-      sense = generator (generator_name s.home (text_at s.text s.tokens n)) (plain_wires dom) (plain_wires cod);
+      sense = generator (generator_name s.home (bytes_at s.scope.words n)) (plain_wires dom) (plain_wires cod);
       stands = a_declared_generator t refl;
       sound = (subst (λ k. k ≤ 64) (sym (length-replicate dom plain)) p.small.ports.0, subst (λ k. k ≤ 64) (sym (length-replicate cod plain)) p.small.ports.1);
     }
     go (definition n tree) t p m =
         let alike = typed s env (definition n tree) p in
-        let is = alike 0 (expansion_at s tree) (omega arith) 0 (expansion_at s tree) (omega arith) in
-        record { sense = abbreviation (expansion_at s tree); stands = a_term t refl; sound = (is.left, p.small.each 0 (expansion_at s tree) (omega arith)) }
+        let is = alike 0 (expansion_at s.scope tree) (omega arith) 0 (expansion_at s.scope tree) (omega arith) in
+        record { sense = abbreviation (expansion_at s.scope tree); stands = a_term t refl; sound = (is.left, p.small.each 0 (expansion_at s.scope tree) (omega arith)) }
     go (rule n left equals right) t p m =
         let alike = typed s env (rule n left equals right) p in
         record {
-          sense = law (expansion_at s left) (expansion_at s right);
+          sense = law (expansion_at s.scope left) (expansion_at s.scope right);
           stands = a_rule t refl;
           sound = (
-            alike 0 (expansion_at s left) (omega arith) 1 (expansion_at s right) (omega arith),
-            p.small.each 0 (expansion_at s left) (omega arith),
-            p.small.each 1 (expansion_at s right)
+            alike 0 (expansion_at s.scope left) (omega arith) 1 (expansion_at s.scope right) (omega arith),
+            p.small.each 0 (expansion_at s.scope left) (omega arith),
+            p.small.each 1 (expansion_at s.scope right)
                 (omega arith),
           );
         }

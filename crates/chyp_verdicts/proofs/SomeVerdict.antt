@@ -12,7 +12,8 @@ use Rattle.chyp_term.specs.Step.{Reason, by_laws, by_rule, by_simp}
 use Rattle.chyp_term.specs.Measure.{size_of, depth_of, generators_of}
 use Rattle.chyp_term.specs.Morphism.{Morphism}
 use Rattle.chyp_term.specs.Limits.{IsWithinLimits, most_depth, most_generators, most_ports, most_size}
-use Rattle.chyp_env.specs.Site.{Site, is_declared}
+use Rattle.chyp_env.specs.Scope.{is_declared}
+use Rattle.chyp_env.specs.Site.{Site}
 use Rattle.chyp_env.specs.Sound.{IsSound}
 use Rattle.chyp_env.specs.Typing.{AllHold, FailsFirst}
 use Rattle.chyp_names.specs.Elaboration.{Passes, IsRefused, declared, at_import, at_name, too_big, mistyped, unproved, tests_at, has_hole, import_fault, steps_at, terms_of}
@@ -86,32 +87,32 @@ pub record Refusal (s : Site) (tree : StatementTree) : Type 0 where
 
 -- nothing refuses a statement, or something does
 pub passes_or_refused : TestsAreDecided → (s : Site) (tree : StatementTree) → Passes s tree ⊎ Refusal s tree
-passes_or_refused tests s tree = name (is_declared s) refl
+passes_or_refused tests s tree = name (is_declared s.scope) refl
   where
-    end : is_declared s ≡ false → import_fault s tree ≡ None → first_fault s tree ≡ None → AreWithinLimits tree (terms_of s tree) → AllHold (tests_at s tree)
-        → (o : Option ℕ) → first_unproved s tree ≡ o → Passes s tree ⊎ Refusal s tree
+    end : is_declared s.scope ≡ false → import_fault s tree ≡ None → first_fault s.scope tree ≡ None → AreWithinLimits tree (terms_of s tree) → AllHold (tests_at s.scope tree)
+        → (o : Option ℕ) → first_unproved s.scope tree ≡ o → Passes s tree ⊎ Refusal s tree
     end f i n b t None u = inl (record { fresh = f; fits = i; known = n; small = b; typed = t; proved = u })
     end f i n b t (Some token) u = inr (record { verdict = Unproved token; is = unproved f i n b t u })
 
-    typing : is_declared s ≡ false → import_fault s tree ≡ None → first_fault s tree ≡ None → AreWithinLimits tree (terms_of s tree)
-        → AllHold (tests_at s tree) ⊎ ((token : ℕ) × FailsFirst (tests_at s tree) token) → Passes s tree ⊎ Refusal s tree
-    typing f i n b (inl t) = end f i n b t (first_unproved s tree) refl
+    typing : is_declared s.scope ≡ false → import_fault s tree ≡ None → first_fault s.scope tree ≡ None → AreWithinLimits tree (terms_of s tree)
+        → AllHold (tests_at s.scope tree) ⊎ ((token : ℕ) × FailsFirst (tests_at s.scope tree) token) → Passes s tree ⊎ Refusal s tree
+    typing f i n b (inl t) = end f i n b t (first_unproved s.scope tree) refl
     typing f i n b (inr t) = inr (record { verdict = Mistyped t.0; is = mistyped f i n b t.1 })
 
-    size : is_declared s ≡ false → import_fault s tree ≡ None → first_fault s tree ≡ None → AreWithinLimits tree (terms_of s tree) ⊎ ¬ AreWithinLimits tree (terms_of s tree)
+    size : is_declared s.scope ≡ false → import_fault s tree ≡ None → first_fault s.scope tree ≡ None → AreWithinLimits tree (terms_of s tree) ⊎ ¬ AreWithinLimits tree (terms_of s tree)
         → Passes s tree ⊎ Refusal s tree
-    size f i n (inl b) = typing f i n b (tests (tests_at s tree))
+    size f i n (inl b) = typing f i n b (tests (tests_at s.scope tree))
     size f i n (inr b) = inr (record { verdict = TooBig; is = too_big f i n b })
 
-    fault : is_declared s ≡ false → import_fault s tree ≡ None → (o : Option Verdict) → first_fault s tree ≡ o → Passes s tree ⊎ Refusal s tree
+    fault : is_declared s.scope ≡ false → import_fault s tree ≡ None → (o : Option Verdict) → first_fault s.scope tree ≡ o → Passes s tree ⊎ Refusal s tree
     fault f i None n = size f i n (small_or_not tree (terms_of s tree))
     fault f i (Some v) n = inr (record { verdict = v; is = at_name f i n })
 
-    fits : is_declared s ≡ false → (o : Option Verdict) → import_fault s tree ≡ o → Passes s tree ⊎ Refusal s tree
-    fits f None i = fault f i (first_fault s tree) refl
+    fits : is_declared s.scope ≡ false → (o : Option Verdict) → import_fault s tree ≡ o → Passes s tree ⊎ Refusal s tree
+    fits f None i = fault f i (first_fault s.scope tree) refl
     fits f (Some v) i = inr (record { verdict = v; is = at_import f i })
 
-    name : (b : Bool) → is_declared s ≡ b → Passes s tree ⊎ Refusal s tree
+    name : (b : Bool) → is_declared s.scope ≡ b → Passes s tree ⊎ Refusal s tree
     name false f = fits f (import_fault s tree) refl
     name true d = inr (record { verdict = Declared 1; is = declared d })
 
@@ -212,10 +213,10 @@ some-steps known terms reasons hole alike can = simp (needs_simp (moves_of terms
     simp false n = table n (good-or-stop known (moves_of terms reasons) n (moves-fit terms reasons alike can)) (is_open reasons hole) refl
 
 -- each statement has a verdict
-pub some-verdict : Known → (s : Site) → IsSound s.env → SomeVerdict (IsJudged s)
-some-verdict known s sound = go (known.sentences s.tokens)
+pub some-verdict : Known → (s : Site) → IsSound s.scope.env → SomeVerdict (IsJudged s)
+some-verdict known s sound = go (known.sentences s.scope.words)
   where
-    passing : (tree : StatementTree) → IsSentence s.tokens tree → Passes s tree → SomeVerdict (IsJudged s)
+    passing : (tree : StatementTree) → IsSentence s.scope.words tree → Passes s tree → SomeVerdict (IsJudged s)
     passing (a_gen name dom cod) t p = record { verdict = Accepted; gets = accepted t p refl }
     passing (definition name tree) t p = record { verdict = Accepted; gets = accepted t p refl }
     passing (rule name left equals right) t p = record { verdict = Accepted; gets = accepted t p refl }
@@ -223,13 +224,13 @@ some-verdict known s sound = go (known.sentences s.tokens)
     passing (showing name) t p = record { verdict = Accepted; gets = accepted t p refl }
     passing (rewrite name first steps) t p =
         let tree = rewrite name first steps in
-        let v = some-steps known (terms_of s tree) (steps_at s tree) (has_hole tree) (known.typed s sound tree p) (reasons-usable s sound tree p) in
+        let v = some-steps known (terms_of s tree) (steps_at s.scope tree) (has_hole tree) (known.typed s sound tree p) (reasons-usable s sound tree p) in
         record { verdict = v.verdict; gets = by_steps t p v.gets }
 
-    of_tree : (tree : StatementTree) → IsSentence s.tokens tree → Passes s tree ⊎ Refusal s tree → SomeVerdict (IsJudged s)
+    of_tree : (tree : StatementTree) → IsSentence s.scope.words tree → Passes s tree ⊎ Refusal s tree → SomeVerdict (IsJudged s)
     of_tree tree t (inl p) = passing tree t p
     of_tree tree t (inr r) = record { verdict = r.verdict; gets = refused t r.is }
 
-    go : IsSentenceOrFails s.tokens → SomeVerdict (IsJudged s)
+    go : IsSentenceOrFails s.scope.words → SomeVerdict (IsJudged s)
     go (inl t) = of_tree t.0 t.1 (passes_or_refused known.tests s t.0)
     go (inr f) = record { verdict = Syntax f.0; gets = no_sentence f.1 }

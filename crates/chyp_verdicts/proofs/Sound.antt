@@ -15,7 +15,7 @@ use Rattle.chyp_verdicts.proofs.OneBinding.{stands-once}
 use Rattle.chyp_verdicts.proofs.SomeBinding.{some-sense}
 
 -- what a name stands for is sound
-pub sense-sound : Known → (s : Site) → IsSound s.env → (v : Verdict) (name : List ℕ) → declared_name s.text s.tokens ≡ Some name → IsJudged s v → (sense : Sense)
+pub sense-sound : Known → (s : Site) → IsSound s.scope.env → (v : Verdict) (name : List ℕ) → declared_name s.scope.words ≡ Some name → IsJudged s v → (sense : Sense)
     → StandsFor s v sense → IsSoundSense sense
 sense-sound known s env v name e j sense st =
     let some = some-sense known.typed s env v name e j in
@@ -27,19 +27,19 @@ IsSoundImport (there env) = IsSound env
 IsSoundImport _ = Unit {0}
 
 -- so is what names stand for behind a statement
-pub binds-sound : Known → (s : Site) (n : ℕ) (v : Verdict) (next : List Binding) → IsSound s.env → IsSoundImport s.imported → IsJudged s v → Binds s n v next → IsSound next
+pub binds-sound : Known → (s : Site) (n : ℕ) (v : Verdict) (next : List Binding) → IsSound s.scope.env → IsSoundImport s.imported → IsJudged s v → Binds s n v next → IsSound next
 binds-sound known s n v next h k j (nothing e o) = h
 binds-sound known s n v next h k j (again e f) = h
 binds-sound known s n v next h k j (anew {name} {sense} e f st) =
     let b : Binding = record { name = name; origin = (s.home, n); sense = sense } in
     record {
-      each = All-append (λ (c : Binding). IsSoundSense c.sense) s.env (b ∷ []) h.each
+      each = All-append (λ (c : Binding). IsSoundSense c.sense) s.scope.env (b ∷ []) h.each
           (All-cons (λ (c : Binding). IsSoundSense c.sense) b [] (sense-sound known s h v name e j sense st) (All-nil _));
-      distinct = known.names s.env b h.distinct f;
+      distinct = known.names s.scope.env b h.distinct f;
     }
 binds-sound known s n v next h k j (imports {as_word} {env} f t i) =
     let sound : IsSound env = subst IsSoundImport i k in
     record {
-      each = import-all (λ (c : Binding). IsSoundSense c.sense) s.env env (prefix_at s as_word) (λ b x. x) h.each sound.each;
-      distinct = distinct-import s.env env (prefix_at s as_word) h.distinct sound.distinct;
+      each = import-all (λ (c : Binding). IsSoundSense c.sense) s.scope.env env (prefix_at s.scope as_word) (λ b x. x) h.each sound.each;
+      distinct = distinct-import s.scope.env env (prefix_at s.scope as_word) h.distinct sound.distinct;
     }

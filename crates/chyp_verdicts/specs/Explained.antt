@@ -6,6 +6,7 @@ use Rattle.chyp_lex.specs.declared.token.Token.{Token}
 use Rattle.chyp_syntax.specs.declared.chunk.Chunk.{Chunk}
 use Rattle.chyp_syntax.specs.Sentence.{IsSentence}
 use Rattle.chyp_syntax.specs.Statement.{StatementTree}
+use Rattle.chyp_syntax.specs.Words.{Word}
 use Rattle.chyp_term.specs.Derivation.{Derives}
 use Rattle.chyp_term.specs.Morphism.{Morphism}
 use Rattle.chyp_term.specs.Rewriting.{RewritesInContext}
@@ -20,76 +21,76 @@ use Rattle.chyp_verdicts.specs.Steps.{AreGood}
 use Rattle.chyp_verdicts.specs.Texts.{AreVerdicts, Stands, statements_of}
 
 -- the equation is that of a `rule` of the text, which stands before the statement of this number and on which that one rests
-pub record IsEarlierRule (text : List ℕ) (statements : List (List Token)) (number : ℕ) (equation : Morphism × Morphism) : Type 0 where
+pub record IsEarlierRule (statements : List (List Word)) (number : ℕ) (equation : Morphism × Morphism) : Type 0 where
   pub from : ℕ
   pub before : from < number
-  pub rests : RestsOn (Stands text statements) ([], number) ([], from)
-  pub means : Means (Stands text statements) ([], from) (law equation.0 equation.1)
+  pub rests : RestsOn (Stands statements) ([], number) ([], from)
+  pub means : Means (Stands statements) ([], from) (law equation.0 equation.1)
 
 -- the statement is a rewrite, and the equation of its first term and its last has a derivation from rules that stand before it
-pub record HasProof (text : List ℕ) (statements : List (List Token)) (number : ℕ) : Type 0 where
+pub record HasProof (statements : List (List Word)) (number : ℕ) : Type 0 where
   pub site : Site
-  pub stands : Stands text statements ([], number) site
+  pub stands : Stands statements ([], number) site
   pub first : Morphism
   pub last : Morphism
   pub is_rewrite : IsRewriteOf site first last
   pub rules : List (Morphism × Morphism)
-  pub earlier : All (IsEarlierRule text statements number) rules
+  pub earlier : All (IsEarlierRule statements number) rules
   pub derivation : Derives rules first last
 
 -- the statement is a rewrite whose step of this number, from 1, has this reason and leads from this term to that one; the steps
 -- before it are good
-pub record HasStep (text : List ℕ) (statements : List (List Token)) (number step : ℕ) (reason : Reason) (from to : Morphism) : Type 0 where
+pub record HasStep (statements : List (List Word)) (number step : ℕ) (reason : Reason) (from to : Morphism) : Type 0 where
   pub site : Site
-  pub stands : Stands text statements ([], number) site
+  pub stands : Stands statements ([], number) site
   pub tree : StatementTree
-  pub is_sentence : IsSentence site.tokens tree
+  pub is_sentence : IsSentence site.scope.words tree
   pub k : ℕ
   pub numbered : step ≡ k + 1
   pub is : slice_get (moves_at site tree) k ≡ Some (record { reason = reason; from = from; to = to })
   pub front : AreGood (moves_at site tree) k
 
 -- a step without a rule, whose equation the monoidal laws don't derive
-pub record HasNoDerivation (text : List ℕ) (statements : List (List Token)) (number step : ℕ) : Type 0 where
+pub record HasNoDerivation (statements : List (List Word)) (number step : ℕ) : Type 0 where
   pub from : Morphism
   pub to : Morphism
-  pub is_step : HasStep text statements number step by_laws from to
+  pub is_step : HasStep statements number step by_laws from to
   pub none : ¬ Derives [] from to
 
 -- a step by a rule, which no context rewrites from the term to the goal; its left side has so many occurrences in the term
-pub record HasNoContext (text : List ℕ) (statements : List (List Token)) (number step occurrences : ℕ) : Type 0 where
+pub record HasNoContext (statements : List (List Word)) (number step occurrences : ℕ) : Type 0 where
   pub left : Morphism
   pub right : Morphism
   pub from : Morphism
   pub to : Morphism
-  pub is_step : HasStep text statements number step (by_rule (left, right)) from to
+  pub is_step : HasStep statements number step (by_rule (left, right)) from to
   pub none : ¬ RewritesInContext left right from to
   pub occur : HaveOccurrences left from occurrences
 
 -- a step by a rule whose left side has so many placements in the term, which are too many
-pub record HasManyPlacements (text : List ℕ) (statements : List (List Token)) (number step placements : ℕ) : Type 0 where
+pub record HasManyPlacements (statements : List (List Word)) (number step placements : ℕ) : Type 0 where
   pub left : Morphism
   pub right : Morphism
   pub from : Morphism
   pub to : Morphism
-  pub is_step : HasStep text statements number step (by_rule (left, right)) from to
+  pub is_step : HasStep statements number step (by_rule (left, right)) from to
   pub many : most_placements < placements
   pub are : HavePlacements left from placements
 
 -- what the verdict says of the statement of this number
-abbrev pub Explains : List ℕ → List (List Token) → ℕ → Verdict → Type 0
-Explains text statements number Proved = HasProof text statements number
-Explains text statements number (Differs step) = HasNoDerivation text statements number step
-Explains text statements number (NoRewrite step occurrences) = HasNoContext text statements number step occurrences
-Explains text statements number (TooWide step placements) = HasManyPlacements text statements number step placements
-Explains text statements number _ = Unit {0}
+abbrev pub Explains : List (List Word) → ℕ → Verdict → Type 0
+Explains statements number Proved = HasProof statements number
+Explains statements number (Differs step) = HasNoDerivation statements number step
+Explains statements number (NoRewrite step occurrences) = HasNoContext statements number step occurrences
+Explains statements number (TooWide step placements) = HasManyPlacements statements number step placements
+Explains statements number _ = Unit {0}
 
 -- what the verdicts say of these statements, one by one, is so
-abbrev pub AreExplained : List ℕ → List (List Token) → List Verdict → Type 0
-AreExplained text statements verdicts =
-    (number : ℕ) (verdict : Verdict) → slice_get verdicts number ≡ Some verdict → Explains text statements number verdict
+abbrev pub AreExplained : List (List Word) → List Verdict → Type 0
+AreExplained statements verdicts =
+    (number : ℕ) (verdict : Verdict) → slice_get verdicts number ≡ Some verdict → Explains statements number verdict
 
 -- what the verdicts of a text say is so
 abbrev pub VerdictsAreExplained : Type 0
 VerdictsAreExplained = (text : List ℕ) (tokens : List Token) (chunks : List Chunk) (verdicts : List Verdict)
-    → AreVerdicts text tokens chunks verdicts → AreExplained text (statements_of tokens chunks) verdicts
+    → AreVerdicts text tokens chunks verdicts → AreExplained (statements_of text tokens chunks) verdicts

@@ -20,17 +20,17 @@ is_rewrite _ = false
 
 -- the steps of a rewrite where it stands, from term to term
 abbrev pub moves_at : Site → StatementTree → List Move
-moves_at site tree = moves_of (terms_of site tree) (steps_at site tree)
+moves_at site tree = moves_of (terms_of site tree) (steps_at site.scope tree)
 
 -- The verdict of a statement where it stands: the first token with which it is no sentence; the first point that refuses it;
 -- else it is accepted, and a rewrite gets the verdict on its steps.
 pub data IsJudged (site : Site) : Verdict → Type 0 where
-  no_sentence : {k : ℕ} → FailsAt site.tokens k → IsJudged site (Syntax k)
-  refused : {tree : StatementTree} {verdict : Verdict} → IsSentence site.tokens tree → IsRefused site tree verdict → IsJudged site verdict
-  accepted : {tree : StatementTree} → IsSentence site.tokens tree → Passes site tree → is_rewrite tree ≡ false → IsJudged site Accepted
-  by_steps : {name : ℕ} {first : TermTree} {steps : List StepTree} {verdict : Verdict} → IsSentence site.tokens (rewrite name first steps)
+  no_sentence : {k : ℕ} → FailsAt site.scope.words k → IsJudged site (Syntax k)
+  refused : {tree : StatementTree} {verdict : Verdict} → IsSentence site.scope.words tree → IsRefused site tree verdict → IsJudged site verdict
+  accepted : {tree : StatementTree} → IsSentence site.scope.words tree → Passes site tree → is_rewrite tree ≡ false → IsJudged site Accepted
+  by_steps : {name : ℕ} {first : TermTree} {steps : List StepTree} {verdict : Verdict} → IsSentence site.scope.words (rewrite name first steps)
       → Passes site (rewrite name first steps)
-      → IsVerdictOnSteps (terms_of site (rewrite name first steps)) (steps_at site (rewrite name first steps))
+      → IsVerdictOnSteps (terms_of site (rewrite name first steps)) (steps_at site.scope (rewrite name first steps))
       (has_hole (rewrite name first steps)) verdict
       → IsJudged site verdict
 

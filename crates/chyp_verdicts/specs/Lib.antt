@@ -4,3 +4,4 @@ pub mod Standing
 pub mod Rules
 pub mod Texts
 pub mod Explained
+pub mod Sites

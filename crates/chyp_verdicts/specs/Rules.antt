@@ -8,7 +8,8 @@ use Rattle.chyp_syntax.specs.Term.{TermTree}
 use Rattle.chyp_term.specs.Derivation.{Derives}
 use Rattle.chyp_term.specs.Morphism.{Morphism}
 use Rattle.chyp_env.specs.Environment.{law, Binding}
-use Rattle.chyp_env.specs.Site.{Site, binding_at}
+use Rattle.chyp_env.specs.Scope.{binding_at}
+use Rattle.chyp_env.specs.Site.{Site}
 use Rattle.chyp_env.specs.Sound.{IsSound}
 use Rattle.chyp_names.specs.Elaboration.{steps_at, terms_of}
 use Rattle.chyp_names.specs.Naming.{names_of_reason}
@@ -22,23 +23,23 @@ pub record IsRule (site : Site) : Type 0 where
   pub left : TermTree
   pub equals : ℕ
   pub right : TermTree
-  pub is_sentence : IsSentence site.tokens (rule name left equals right)
+  pub is_sentence : IsSentence site.scope.words (rule name left equals right)
 
 -- the statement is a rewrite, and a `by` of one of its steps names this binding
 pub record Cites (site : Site) (binding : Binding) : Type 0 where
   pub name : ℕ
   pub first : TermTree
   pub steps : List StepTree
-  pub is_sentence : IsSentence site.tokens (rewrite name first steps)
+  pub is_sentence : IsSentence site.scope.words (rewrite name first steps)
   pub step : StepTree
   pub is_step : Contains steps step
   pub token : ℕ
   pub named : Contains (names_of_reason step.reason) token
-  pub is : binding_at site token ≡ Some binding
+  pub is : binding_at site.scope token ≡ Some binding
 
 -- the equations behind the `by`s of a rewrite, each in the direction in which a step uses it
 abbrev pub cited_by : Site → StatementTree → List (Morphism × Morphism)
-cited_by site tree = flat_map rules_of (steps_at site tree)
+cited_by site tree = flat_map rules_of (steps_at site.scope tree)
 
 -- The one statement rests on the other, which is a `rule`: a rule rests on itself, and a rewrite on what the statements rest on
 -- that its `by`s name.
@@ -64,11 +65,11 @@ pub record IsRewriteOf (site : Site) (first last : Morphism) : Type 0 where
   pub name : ℕ
   pub tree : TermTree
   pub steps : List StepTree
-  pub is_sentence : IsSentence site.tokens (rewrite name tree steps)
+  pub is_sentence : IsSentence site.scope.words (rewrite name tree steps)
   pub is_first : slice_get (terms_of site (rewrite name tree steps)) 0 ≡ Some first
   pub is_last : slice_get (terms_of site (rewrite name tree steps)) (length (terms_of site (rewrite name tree steps)) - 1) ≡ Some last
 
 -- where a rewrite is proved, its last term follows from its first by the equations that it cites; names stand for sound things
 abbrev pub ProvedRewritesFollow : Type 0
-ProvedRewritesFollow = (site : Site) → IsSound site.env → IsJudged site Proved → (first last : Morphism) → (is : IsRewriteOf site first last)
+ProvedRewritesFollow = (site : Site) → IsSound site.scope.env → IsJudged site Proved → (first last : Morphism) → (is : IsRewriteOf site first last)
     → Derives (cited_by site (rewrite is.name is.tree is.steps)) first last

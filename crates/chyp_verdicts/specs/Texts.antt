@@ -4,41 +4,46 @@ use Rattle.chyp_base.specs.declared.verdict.Verdict.{Verdict}
 use Rattle.chyp_lex.specs.declared.token.Token.{Token}
 use Rattle.chyp_syntax.specs.declared.chunk.Chunk.{Chunk}
 use Rattle.chyp_syntax.specs.Heading.{chunk_tokens}
+use Rattle.chyp_syntax.specs.Words.{Word, words_of}
 use Rattle.chyp_env.specs.Environment.{Binding}
 use Rattle.chyp_env.specs.Site.{Site, nothing as nothing'}
 use Rattle.chyp_names.specs.Binding.{Binds}
 use Rattle.chyp_verdicts.specs.Judged.{IsJudged}
 use Rattle.chyp_verdicts.specs.Standing.{Gets, Origin}
 
--- a statement of a text behind statements that have made this environment
-abbrev pub site : List ℕ → List Binding → List Token → Site
-site text env statement = record { home = []; text = text; env = env; tokens = statement; imported = nothing' }
+-- a statement of the main text behind statements that have made this environment
+abbrev pub site : List Binding → List Word → Site
+site env statement = record { scope = record { words = statement; env = env }; home = []; imported = nothing' }
 
 -- The first statements of a text, as many as this, make this environment: each is judged behind those before it, and binds its
 -- name once it has its verdict. In front of all names stand for nothing.
-pub data Makes (text : List ℕ) (statements : List (List Token)) : ℕ → List Binding → Type 0 where
-  at_start : Makes text statements zero []
-  one_more : {number : ℕ} {env next : List Binding} {statement : List Token} {verdict : Verdict}
-      → slice_get statements number ≡ Some statement → Makes text statements number env
-      → IsJudged (site text env statement) verdict → Binds (site text env statement) number verdict next
-      → Makes text statements (suc number) next
+pub data Makes (statements : List (List Word)) : ℕ → List Binding → Type 0 where
+  at_start : Makes statements zero []
+  one_more : {number : ℕ} {env next : List Binding} {statement : List Word} {verdict : Verdict}
+      → slice_get statements number ≡ Some statement → Makes statements number env
+      → IsJudged (site env statement) verdict → Binds (site env statement) number verdict next
+      → Makes statements (suc number) next
 
 -- the statement of this origin, which is in the main text, stands at this site
-pub record Stands (text : List ℕ) (statements : List (List Token)) (origin : Origin) (at : Site) : Type 0 where
+pub record Stands (statements : List (List Word)) (origin : Origin) (at : Site) : Type 0 where
   pub main : origin.0 ≡ []
-  pub here : slice_get statements origin.1 ≡ Some at.tokens
-  pub makes : Makes text statements origin.1 at.env
-  pub is : at ≡ site text at.env at.tokens
+  pub here : slice_get statements origin.1 ≡ Some at.scope.words
+  pub makes : Makes statements origin.1 at.scope.env
+  pub is : at ≡ site at.scope.env at.scope.words
 
--- the tokens of each chunk
-abbrev pub statements_of : List Token → List Chunk → List (List Token)
-statements_of tokens chunks = map (chunk_tokens tokens) chunks
+-- the words of the statement that a chunk of a text is
+abbrev pub statement_of : List ℕ → List Token → Chunk → List Word
+statement_of text tokens chunk = words_of text (chunk_tokens tokens chunk)
+
+-- the statements of a text, by their words
+abbrev pub statements_of : List ℕ → List Token → List Chunk → List (List Word)
+statements_of text tokens chunks = map (statement_of text tokens) chunks
 
 -- the verdicts of the statements of a text
 pub record AreVerdicts (text : List ℕ) (tokens : List Token) (chunks : List Chunk) (verdicts : List Verdict) : Type 0 where
   pub many : length verdicts ≡ length chunks
   pub each : (number : ℕ) (verdict : Verdict) → slice_get verdicts number ≡ Some verdict
-      → Gets (Stands text (statements_of tokens chunks)) ([], number) verdict
+      → Gets (Stands (statements_of text tokens chunks)) ([], number) verdict
 
 -- the statements of a text have exactly one list of verdicts
 pub record HaveOneListOfVerdicts (text : List ℕ) (tokens : List Token) (chunks : List Chunk) : Type 0 where

@@ -1,17 +1,17 @@
 use Rattle.std.proofs.Common.{◌+◌, ◌<◌, length, arith, rules, refl, sym, subst}
-use Rattle.chyp_syntax.proofs.Spans.{here, is_here, statement_spans, tile_within}
+use Rattle.chyp_syntax.proofs.Spans.{is_here, tile_within}
 use Rattle.chyp_verdicts.specs.Texts.{statements_of}
-use Rattle.chyp_check.proofs.Texts.{AreChecked, chunks_few, none-checked, one-checked, spelled}
+use Rattle.chyp_check.proofs.Texts.{AreChecked, chunks_few, none-checked, one-checked}
 use Rattle.chyp_check.proofs.each.check_each.Goals as goal
 
 pub loop-index-init : goal.loop-index-init
 loop-index-init g c = record {
-  checked = none-checked c.args.text.now (statements_of c.args.tokens.now c.args.chunks.now) c.in_ok-verdicts.verdicts.items _ c.in_ok-verdicts.ensures.items c.new-env.ensures;
+  checked = none-checked (statements_of c.args.text.now c.args.tokens.now c.args.chunks.now) c.in_ok-verdicts.verdicts.items _ c.in_ok-verdicts.ensures.items c.new-env.ensures;
   ticked = omega arith;
 }
 
-pub chunk_tokens-requires : goal.chunk_tokens-requires
-chunk_tokens-requires g c =
+pub statement-requires-clause-within : goal.statement-requires-clause-within
+statement-requires-clause-within g c =
     (tile_within 0 (length c.args.tokens.now) c.loop-index.index _ c.args.chunks.now c.requires.chunks.tile (is_here c.args.chunks.now c.loop-index.index c.loop-index-test.true)).2
 
 pub overflow_cast-index : goal.overflow_cast-index
@@ -22,23 +22,13 @@ overflow_cast-index g c =
     let small : c.loop-index.index < 4294967296 = omega arith in
     search rules
 
-pub judge_and_bind-requires : goal.judge_and_bind-requires
-judge_and_bind-requires g c =
-    let chunk = here c.args.chunks.now c.loop-index.index in
-    rw c.chunk_tokens.ensures (record {
-      spans = statement_spans (length c.args.text.now) c.args.tokens.now chunk c.requires.spans;
-      one_piece = refl;
-      short = c.requires.short;
-      spelled = spelled c.args.text.now c.args.tokens.now chunk c.requires.names;
-    })
-
 pub loop-index-preserved : goal.loop-index-preserved
 loop-index-preserved g c = record {
   checked =
-      subst (λ verdicts. AreChecked c.args.text.now (statements_of c.args.tokens.now c.args.chunks.now) (c.loop-index.index + 1) verdicts c.judge_and_bind.new.env)
+      subst (λ verdicts. AreChecked (statements_of c.args.text.now c.args.tokens.now c.args.chunks.now) (c.loop-index.index + 1) verdicts c.judge_and_bind.new.env)
       (sym c.in_ok-push.ensures.items)
       (one-checked c.args.text.now c.in_ok-home.home c.args.tokens.now c.args.chunks.now c.loop-index.index c.loop-index.verdicts.items c.in_ok-judge_and_bind.field-0 c.loop-index.env
-      c.judge_and_bind.new.env c.chunk_tokens.result.now c.in_ok-home.ensures c.loop-index-test.true c.chunk_tokens.ensures c.loop-index.invariant.checked c.in_ok-judge_and_bind.ensures.judged
+      c.judge_and_bind.new.env c.statement-view.result c.in_ok-home.ensures c.loop-index-test.true c.statement-view.ensures c.loop-index.invariant.checked c.in_ok-judge_and_bind.ensures.judged
       c.in_ok-judge_and_bind.ensures.binds);
   ticked = let t = c.loop-index.invariant.ticked in let x = c.tick.ensures in omega arith;
 }

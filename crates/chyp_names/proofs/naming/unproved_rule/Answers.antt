@@ -1,5 +1,4 @@
 use Rattle.std.proofs.Common.{[], map, false, slice_index_or, ◌∙◌, sym}
-use Rattle.chyp_env.specs.ChunkView.{site_of}
 use Rattle.chyp_names.specs.Naming.{in_reason, unproved_use}
 use Rattle.chyp_names.proofs.Firsts.{first_one, stops, goes_on, ends}
 use Rattle.chyp_names.proofs.Uses.{rule_uses, uses_of_rules}
@@ -7,20 +6,20 @@ use Rattle.chyp_names.proofs.naming.unproved_rule.Goals as goal
 
 pub returns-then-is_some : goal.returns-then-is_some
 returns-then-is_some c =
-    stops (unproved_use (site_of [] c.args.chunk.now c.args.env.now)) rule_uses c.args.rules.now c.loop-rule.rule-index (record { minus = false; name = 0 })
+    stops (unproved_use c.args.scope.now) rule_uses c.args.rules.now c.loop-rule.rule-index (record { minus = false; name = 0 })
     (map in_reason (map (λ rule. rule.name) c.args.rules.now)) c.unproved_name-unproved.result (uses_of_rules c.args.rules.now) c.loop-rule-test.true c.loop-rule.invariant
     (c.unproved_name-unproved.ensures
-    ∙ sym (first_one (unproved_use (site_of [] c.args.chunk.now c.args.env.now)) (in_reason (slice_index_or c.args.rules.now c.loop-rule.rule-index (record { minus = false; name = 0 })).name)))
+    ∙ sym (first_one (unproved_use c.args.scope.now) (in_reason (slice_index_or c.args.rules.now c.loop-rule.rule-index (record { minus = false; name = 0 })).name)))
     c.if-is_some.ensures
 
 pub loop-rule-preserved : goal.loop-rule-preserved
 loop-rule-preserved c =
-    goes_on (unproved_use (site_of [] c.args.chunk.now c.args.env.now)) rule_uses c.args.rules.now c.loop-rule.rule-index (record { minus = false; name = 0 }) c.unproved_name-unproved.result
+    goes_on (unproved_use c.args.scope.now) rule_uses c.args.rules.now c.loop-rule.rule-index (record { minus = false; name = 0 }) c.unproved_name-unproved.result
     c.loop-rule-test.true c.loop-rule.invariant
     (c.unproved_name-unproved.ensures
-    ∙ sym (first_one (unproved_use (site_of [] c.args.chunk.now c.args.env.now)) (in_reason (slice_index_or c.args.rules.now c.loop-rule.rule-index (record { minus = false; name = 0 })).name)))
+    ∙ sym (first_one (unproved_use c.args.scope.now) (in_reason (slice_index_or c.args.rules.now c.loop-rule.rule-index (record { minus = false; name = 0 })).name)))
     c.if-is_some.ensures
 
 pub returns : goal.returns
-returns c = ends (unproved_use (site_of [] c.args.chunk.now c.args.env.now)) rule_uses c.args.rules.now c.loop-rule.rule-index (map in_reason (map (λ rule. rule.name) c.args.rules.now))
+returns c = ends (unproved_use c.args.scope.now) rule_uses c.args.rules.now c.loop-rule.rule-index (map in_reason (map (λ rule. rule.name) c.args.rules.now))
     (uses_of_rules c.args.rules.now) c.loop-rule-test.false c.loop-rule.invariant

@@ -1,9 +1,8 @@
 use Rattle.std.proofs.Common.{[]}
-use Rattle.chyp_env.specs.ChunkView.{site_of}
 use Rattle.chyp_names.specs.Naming.{unproved_use}
 use Rattle.chyp_names.proofs.Firsts.{NoneYet}
 use Rattle.chyp_names.proofs.Uses.{rule_uses}
 use Rattle.chyp_names.proofs.naming.unproved_rule.Given as goal
 
 abbrev pub invariant-loop-rule : goal.invariant-loop-rule
-invariant-loop-rule l = NoneYet (unproved_use (site_of [] l.chunk l.env)) rule_uses l.rules l.rule-index
+invariant-loop-rule l = NoneYet (unproved_use l.scope) rule_uses l.rules l.rule-index

@@ -2,7 +2,7 @@ use Rattle.std.proofs.Common.{refl, arith}
 use Rattle.chyp_env.proofs.Spelled.{spelled}
 use Rattle.chyp_text_tests.proofs.statements.lent.Goals as goal
 
-pub returns : goal.returns
-returns c =
+pub new-requires : goal.new-requires
+new-requires c =
     let short = c.requires.short in
     record { spans = c.requires.spans; one_piece = refl; short = omega arith; spelled = spelled c.args.text.now c.args.tokens.now c.requires.tokens }
