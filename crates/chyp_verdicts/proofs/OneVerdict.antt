@@ -4,7 +4,7 @@ use Rattle.std.proofs.lemmas.Bool.{cases_lt, false≢true}
 use Rattle.std.proofs.lemmas.List.{take-take}
 use Rattle.chyp_base.specs.declared.verdict.Verdict.{Verdict}
 use Rattle.chyp_base.specs.declared.verdict.Verdict.TheVariants.{Syntax, Mistyped, Unproved}
-use Rattle.chyp_lex.specs.declared.token.Token.{Token}
+use Rattle.chyp_syntax.specs.Words.{Word}
 use Rattle.chyp_syntax.specs.Failing.{FailsAt, ArePrefixesClosed}
 use Rattle.chyp_syntax.specs.Sentence.{IsPrefix}
 use Rattle.chyp_syntax.specs.Statement.{StatementTree, rewrite}
@@ -24,13 +24,13 @@ use Rattle.chyp_verdicts.proofs.Judgements.{judgement-once}
 use Rattle.chyp_verdicts.proofs.Known.{Known}
 
 -- a chunk fails at one place
-not_before : ((tokens : List Token) → ArePrefixesClosed tokens) → (tokens : List Token) (j k : ℕ) → FailsAt tokens j → FailsAt tokens k → j < k → ⊥
+not_before : ((tokens : List Word) → ArePrefixesClosed tokens) → (tokens : List Word) (j k : ℕ) → FailsAt tokens j → FailsAt tokens k → j < k → ⊥
 not_before closed tokens j k f g h =
     let short : j < length tokens = omega (arith, g.within) in
     let front : take (j + 1) (take k tokens) ≡ take (j + 1) tokens = take-take (j + 1) k tokens (omega arith) in
     f.refused short (subst IsPrefix front (closed (take k tokens) (j + 1) g.before))
 
-pub fails-once : ((tokens : List Token) → ArePrefixesClosed tokens) → (tokens : List Token) (j k : ℕ) → FailsAt tokens j → FailsAt tokens k → j ≡ k
+pub fails-once : ((tokens : List Word) → ArePrefixesClosed tokens) → (tokens : List Word) (j k : ℕ) → FailsAt tokens j → FailsAt tokens k → j ≡ k
 fails-once closed tokens j k f g = go (cases_lt j k) (cases_lt k j)
   where
     go : (j < k) ⊎ (k ≤ j) → (k < j) ⊎ (j ≤ k) → j ≡ k

@@ -66,7 +66,7 @@ push-verdict Stands home number verdicts v front g = record {
 
 module _ (known : Known) (ss : List (List Word)) where
   -- the statement behind those that have made the environment
-  pub stands-behind : (n : ℕ) (env : List Binding) (tokens : List Token) → slice_get ss n ≡ Some tokens → Makes ss n env → Stands ss ([], n) (site env tokens)
+  pub stands-behind : (n : ℕ) (env : List Binding) (tokens : List Word) → slice_get ss n ≡ Some tokens → Makes ss n env → Stands ss ([], n) (site env tokens)
   stands-behind n env tokens at k = record { main = refl; here = at; makes = k; is = refl }
 
   -- every environment is sound
