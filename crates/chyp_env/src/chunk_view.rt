@@ -15,7 +15,7 @@ use std::marker::Model;
 
 /// The tokens of one statement, and the text in which their places count: two slices, one behind the
 /// other. Contracts see it as the words of the statement.
-#[derive(Debug)]
+#[derive(Debug, Drop)]
 pub struct ChunkView<'a> {
     tokens: &'a [Token],
     first: &'a [u8],

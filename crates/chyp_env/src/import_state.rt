@@ -2,6 +2,7 @@
 use crate::Env;
 
 /// What a statement imports. Contracts see it through `imported_of` of `specs/ImportState.antt`.
+#[derive(Clone, Copy)]
 pub enum ImportState<'a> {
     /// It is no import, or nothing is known of its module.
     NotImport,

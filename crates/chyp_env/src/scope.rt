@@ -7,6 +7,7 @@ use crate::{ChunkView, Entry, Env};
 use std::marker::Model;
 
 /// A statement, with what names stand for in front of it.
+#[derive(Drop)]
 pub struct Scope<'a> {
     chunk: &'a ChunkView<'a>,
     env: &'a Env,
