@@ -15,6 +15,7 @@ MOST_PARENTHESES = 256
 MOST_PORTS = 64
 MOST_GENERATORS, MOST_SIZE, MOST_DEPTH, MOST_TOGETHER = 1024, 200_000, 256, 4_000_000
 MOST_PLACEMENTS = 65_536
+MOST_REWRITES = 256
 
 Token = namedtuple("Token", "kind start end value")
 
@@ -318,25 +319,29 @@ class Graph:
 
 
 def graph_of(term):
-    """The graph of a term."""
+    """The graph of a term: its wires come in the order in which the parts of the term have them."""
     wires, edges = list(range(width(term))), []
 
     def draw(term, live):
         if isinstance(term, Wires):
-            return [live[place] for place in term.places]
+            return [live[place] for place in term.places], live
         if isinstance(term, Generator):
             targets = list(range(len(wires), len(wires) + term.outputs))
             wires.extend(targets)
             edges.append(Edge(term.name, live, targets))
-            return targets
+            return targets, live + targets
         if term.kind == "chain":
-            return draw(term.rest, draw(term.first, live))
+            middle, first = draw(term.first, live)
+            outputs, rest = draw(term.rest, middle)
+            joined = set(middle)
+            return outputs, first + [wire for wire in rest if wire not in joined]
         middle = width(term.first)
-        return draw(term.first, live[:middle]) + draw(term.rest, live[middle:])
+        (first, mine), (rest, theirs) = draw(term.first, live[:middle]), draw(term.rest, live[middle:])
+        return first + rest, mine + theirs
 
     inputs = list(wires)
-    outputs = draw(term, inputs)
-    return Graph(wires, edges, inputs, outputs)
+    outputs, order = draw(term, inputs)
+    return Graph(order, edges, inputs, outputs)
 
 
 def width(term):
@@ -493,6 +498,46 @@ def replaced(graph, left, right, edges, wires):
     )
 
 
+# ## Runs of rules
+
+
+class Ends(Exception):
+    """The words of the end of a run that ends in no normal form."""
+
+
+def numbered(graph):
+    """The graph with the places of its wires in place of their names."""
+    place = {wire: k for k, wire in enumerate(graph.wires)}
+    new = lambda ports: [place[wire] for wire in ports]
+    edges = [Edge(edge.name, new(edge.sources), new(edge.targets)) for edge in graph.edges]
+    return Graph(new(graph.wires), edges, new(graph.inputs), new(graph.outputs))
+
+
+def rewritten(graph, rules):
+    """The graph with the least occurrence of the first rule that has one replaced, or None where no rule has one."""
+    for left, right in rules:
+        count = placements(left, graph)
+        if count > MOST_PLACEMENTS:
+            raise Ends(f"too-wide {count}")
+        # They come in lexicographic order.
+        found = next((each for each in embeddings(left, graph, [], {}) if is_convex(graph, *each)), None)
+        if found is not None:
+            return numbered(replaced(graph, left, right, *found))
+    return None
+
+
+def normal_form(graph, rules):
+    """The graph to which the rules lead."""
+    for _ in range(MOST_REWRITES):
+        after = rewritten(graph, rules)
+        if after is None:
+            return graph
+        graph = after
+    if rewritten(graph, rules) is not None:
+        raise Ends("simp-limit")
+    return graph
+
+
 # ## Verdicts
 
 
@@ -537,16 +582,34 @@ def check_types(sentence, reader):
         raise Refused("type", *found.args) from None
 
 
+def sides(signed, reader):
+    """The graphs of the sides of a rule, in the direction in which it is used."""
+    left, right = [graph_of(term) for term in reader.entry(signed.token).term]
+    return (right, left) if signed.minus else (left, right)
+
+
+def check_forms(number, before, after, rules):
+    """Refuses a step by `simp` that isn't good."""
+    try:
+        first = normal_form(numbered(before), rules)
+        second = normal_form(numbered(after), rules)
+    except Ends as found:
+        raise Refused(f"step {number} {found}", None) from None
+    if not are_isomorphic(first, second):
+        raise Refused(f"step {number} simp-differs", None)
+
+
 def check_step(number, before, after, reason, reader):
     """Refuses a step that isn't good."""
     if not reason.rules:
         if not are_isomorphic(before, after):
             raise Refused(f"step {number} differs", None)
         return
-    (signed,) = reason.rules
-    left, right = [graph_of(term) for term in reader.entry(signed.token).term]
-    if signed.minus:
-        left, right = right, left
+    rules = [sides(signed, reader) for signed in reason.rules]
+    if reason.is_simp:
+        check_forms(number, before, after, rules)
+        return
+    ((left, right),) = rules
     count = placements(left, before)
     if count > MOST_PLACEMENTS:
         raise Refused(f"step {number} too-wide {count}", None)
@@ -556,12 +619,10 @@ def check_step(number, before, after, reason, reader):
 
 
 def check_steps(sentence, reader):
-    """Refuses a rewrite that uses an unproved one, that needs `simp`, or that has a step that is not good."""
+    """Refuses a rewrite that uses an unproved one, or that has a step that is not good."""
     for signed in [signed for step in sentence.steps for signed in step.reason.rules]:
         if reader.entry(signed.token).kind == "unproved":
             raise Refused("unproved", signed.token)
-    if any(step.reason.is_simp and step.goal is not None for step in sentence.steps):
-        raise Refused("not-built", None)
     graphs = [graph_of(reader.term(term)) for term in sentence.terms]
     for number, (before, after, step) in enumerate(zip(graphs, graphs[1:], sentence.steps), 1):
         check_step(number, before, after, step.reason, reader)

@@ -112,11 +112,17 @@ const CASES: [Case; 34] = [
         status: Status::SomeNotGood,
         written: "1:1 rewrite a open\n2:1 rewrite a declared at 2:9\ntotal 2 good 0\n",
     },
-    // A rewrite with a step by `simp` is not judged, and is no rule.
+    // A run of rules that comes to no end.
     Case {
         text: b"gen f : 1 -> 1\nrule r : f = f\nrewrite a : f = f by simp(r)\nrewrite b : f = f by a",
         status: Status::SomeNotGood,
-        written: "1:1 gen f ok\n2:1 rule r ok\n3:1 rewrite a not-built\n4:1 rewrite b unproved at 4:22\ntotal 4 good 2\n",
+        written: "1:1 gen f ok\n2:1 rule r ok\n3:1 rewrite a step 1 simp-limit\n4:1 rewrite b unproved at 4:22\ntotal 4 good 2\n",
+    },
+    // Normal forms are compared by the laws.
+    Case {
+        text: b"gen f : 1 -> 1\ngen g : 1 -> 1\nrule r : f = g\nrewrite a : f ; f = g ; g by simp(r)\nrewrite b : f ; f = g by simp(r)",
+        status: Status::SomeNotGood,
+        written: "1:1 gen f ok\n2:1 gen g ok\n3:1 rule r ok\n4:1 rewrite a proved\n5:1 rewrite b step 1 simp-differs\ntotal 5 good 4\n",
     },
     // A proved rewrite is a rule.
     Case {

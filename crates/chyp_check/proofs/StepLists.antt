@@ -8,36 +8,13 @@ use Rattle.chyp_term.specs.Step.{Reason, reason_of, reasons_of}
 use Rattle.chyp_term.specs.declared.step.Step.{Step}
 use Rattle.chyp_judge.specs.Judged.{CanBeJudged, IsJudgement}
 use Rattle.chyp_judge.specs.declared.judged.Judged.{Judged}
-use Rattle.chyp_judge.specs.declared.judged.Judged.TheVariants.{Differs, Good, NoRewrite, TooWide}
+use Rattle.chyp_judge.specs.declared.judged.Judged.TheVariants.{Differs, Good, NoRewrite, SimpDiffers, SimpLimit, TooWide}
 use Rattle.chyp_names.specs.Typing.{AreTypedAlike}
-use Rattle.chyp_verdicts.specs.Steps.{AreGood, AreUsable, IsUsable, Move, is_by_simp, moves_of, needs_simp, refusal_at, rules_of}
+use Rattle.chyp_simp.specs.Laws.{IsUsable}
+use Rattle.chyp_verdicts.specs.Steps.{AreGood, AreUsable, Move, moves_of, refusal_at, rules_of}
 use Rattle.chyp_verdicts.proofs.OneVerdict.{slice_get-read, some-once}
 use Rattle.chyp_verdicts.proofs.SomeVerdict.{usable-judged}
 use Rattle.chyp_verdicts.proofs.Texts.{get-there}
-
--- the first k steps are not by `simp`
-abbrev pub NonePass : List Move → ℕ → Type 0
-NonePass moves k = (j : ℕ) (move : Move) → j < k → slice_get moves j ≡ Some move → is_by_simp move.reason ≡ false
-
-pub none-passes : (moves : List Move) → NonePass moves (length moves) → needs_simp moves ≡ false
-none-passes [] none = refl
-none-passes (m ∷ ms) none = ap (λ b. b || needs_simp ms) (none 0 m (omega arith) refl) ∙ none-passes ms (λ j n h e. none (suc j) n (omega arith) e)
-
-pub one-passes : (moves : List Move) (k : ℕ) (move : Move) → slice_get moves k ≡ Some move → is_by_simp move.reason ≡ true → needs_simp moves ≡ true
-one-passes [] k move e h = absurd cc
-one-passes (m ∷ ms) zero move e h = let same : m ≡ move = cc in ap (λ (x : Move). is_by_simp x.reason || needs_simp ms) same ∙ ap (λ b. b || needs_simp ms) h
-one-passes (m ∷ ms) (suc k) move e h = ap (λ b. is_by_simp m.reason || b) (one-passes ms k move e h) ∙ or-true (is_by_simp m.reason)
-  where
-    or-true : (b : Bool) → (b || true) ≡ true
-    or-true true = refl
-    or-true false = refl
-
-pub passes-none : (moves : List Move) (k : ℕ) (move : Move) → needs_simp moves ≡ false → slice_get moves k ≡ Some move → is_by_simp move.reason ≡ false
-passes-none moves k move none e = go (is_by_simp move.reason) refl
-  where
-    go : (b : Bool) → is_by_simp move.reason ≡ b → is_by_simp move.reason ≡ false
-    go false h = h
-    go true h = let both : true ≡ false = sym (one-passes moves k move e h) ∙ none in absurd cc
 
 -- the step at a place goes from the term there to the next one
 pub move-at : (terms : List Morphism) (reasons : List Reason) (k : ℕ) (r : Reason) (s t : Morphism) → slice_get reasons k ≡ Some r → slice_get terms k ≡ Some s → slice_get terms (suc k) ≡ Some t
@@ -56,17 +33,6 @@ length-moves (a ∷ []) reasons h = refl
 length-moves (a ∷ b ∷ rest) [] h = absurd (omega arith)
 length-moves (a ∷ b ∷ rest) (r ∷ reasons) h = let l = length-moves (b ∷ rest) reasons (omega arith) in omega arith
 
--- one step more is not by `simp`
-pub none-more : (moves : List Move) (k : ℕ) (move : Move) → NonePass moves k → slice_get moves k ≡ Some move → is_by_simp move.reason ≡ false → NonePass moves (suc k)
-none-more moves k move front e no' j other h f = go (cases_lt j k)
-  where
-    go : (j < k) ⊎ (k ≤ j) → is_by_simp other.reason ≡ false
-    go (inl i) = front j other i f
-    go (inr i) =
-        let same : k ≡ j = omega arith in
-        let is : move ≡ other = some-once (slice_get moves j) move other (ap (slice_get moves) (sym same) ∙ e) f in
-        ap (λ (m : Move). is_by_simp m.reason) (sym is) ∙ no'
-
 -- one step more is good
 pub good-more : (moves : List Move) (k : ℕ) (move : Move) → AreGood moves k → slice_get moves k ≡ Some move → IsJudgement move.reason move.from move.to Good → AreGood moves (suc k)
 good-more moves k move front e is j other h f = go (cases_lt j k)
@@ -84,6 +50,8 @@ no-refusal n Good e = refl
 no-refusal n Differs e = absurd cc
 no-refusal n (NoRewrite k) e = absurd cc
 no-refusal n (TooWide k) e = absurd cc
+no-refusal n SimpDiffers e = absurd cc
+no-refusal n SimpLimit e = absurd cc
 
 -- the item at a place
 pub item-at : {A : Type 0} (xs : List A) (k : ℕ) (x : A) → k < length xs → x ≡ slice_index_or xs k x → slice_get xs k ≡ Some x
@@ -103,19 +71,11 @@ typed-at terms j k s t alike e f =
     let b = slice_get-read terms k t f in
     subst (IsEquation s) b.1 (subst (λ m. IsEquation m (slice_index_or terms k t)) a.1 (alike j s a.0 k t b.0))
 
--- the step at a place can be judged, where it isn't by `simp`
-pub judged-at : (reasons : List Reason) (k : ℕ) (r : Reason) → AreUsable reasons → slice_get reasons k ≡ Some r → is_by_simp r ≡ false → CanBeJudged r
-judged-at reasons k r can e s =
+-- the step at a place can be judged
+pub judged-at : (reasons : List Reason) (k : ℕ) (r : Reason) → AreUsable reasons → slice_get reasons k ≡ Some r → CanBeJudged r
+judged-at reasons k r can e =
     let a = slice_get-read reasons k r e in
-    usable-judged r s (subst (λ x. All IsUsable (rules_of x)) a.1 (can k r a.0))
+    usable-judged r (subst (λ x. All IsUsable (rules_of x)) a.1 (can k r a.0))
 
 pub length-reasons : (steps : List Step) → length (reasons_of steps) ≡ length steps
 length-reasons steps = length-map steps reason_of
-
--- the step between two terms that are there
-pub move-there : (terms : List Morphism) (steps : List Step) (k : ℕ) (step : Step) → k + 1 < length terms → slice_get steps k ≡ Some step
-    → (from : Morphism) × (to : Morphism) × (slice_get (moves_of terms (reasons_of steps)) k ≡ Some (record { reason = reason_of step; from = from; to = to }))
-move-there terms steps k step h e =
-    let from = get-there terms k (omega arith) in
-    let to = get-there terms (suc k) (omega arith) in
-    (from.0, to.0, move-at terms (reasons_of steps) k (reason_of step) from.0 to.0 (reason-at steps k step e) from.1 to.1)

@@ -32,9 +32,9 @@ pub(crate) fn judge_and_bind(
 {
     let import = ImportState::NotImport;
     let inputs = Inputs {
-        module: home,
-        chunk,
-        env,
+        module: &*home,
+        chunk: &*chunk,
+        env: &*env,
         import: &import,
     };
     let outcome = judge_statement(alloc, &inputs)?;

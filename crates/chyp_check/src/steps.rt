@@ -1,36 +1,16 @@
 // The verdict on a rewrite that nothing refuses, by its steps.
-ghost use Rattle.std.specs.Prelude.{◌≡◌, ◌≤◌, ◌<◌, ◌+◌, ◌-◌, ◌^◌, false, IfOk, IfNone, IfSome, length};
+ghost use Rattle.std.specs.Prelude.{◌≡◌, ◌≤◌, ◌<◌, ◌+◌, ◌-◌, ◌^◌, IfOk, IfNone, IfSome, length};
 ghost use Rattle.chyp_term.specs.Derivation.{IsEquation};
 ghost use Rattle.chyp_term.specs.Step.{reason_of, reasons_of};
 ghost use Rattle.chyp_judge.specs.Judged.{CanBeJudged, IsJudgement};
 ghost use Rattle.chyp_names.specs.Typing.{AreTypedAlike};
-ghost use Rattle.chyp_verdicts.specs.Steps.{AreGood, AreUsable, IsVerdictOnSteps, StopsWith, is_by_simp, is_open, moves_of, needs_simp, refusal_at};
+ghost use Rattle.chyp_verdicts.specs.Steps.{AreGood, AreUsable, IsVerdictOnSteps, StopsWith, is_open, moves_of, refusal_at};
 
 use chyp_base::{NoMemory, Verdict};
 use chyp_judge::{Judged, judge};
 use chyp_names::{Body, KnownTerm};
 use chyp_term::Step;
 use std::alloc::Global;
-
-// Whether a step is by `simp`.
-fn is_by_simp(step: &Step) -> bool
-    ensures { result ≡ is_by_simp (reason_of step.now) }
-{
-    matches!(step, Step::Simp(_))
-}
-
-// Whether some step that leads to a term is by `simp`.
-fn needs_simp(terms: &[KnownTerm], steps: &[Step]) -> bool
-    requires enough { length terms.now ≤ length steps.now + 1 }
-    ensures { result ≡ needs_simp (moves_of terms.now (reasons_of steps.now)) }
-{
-    for at in 1..terms.len() {
-        if is_by_simp(&steps[at - 1]) {
-            return true;
-        }
-    }
-    false
-}
 
 // The verdict of a rewrite whose step of this number is judged so.
 fn refusal_at(step: u32, judged: Judged) -> Option<Verdict>
@@ -41,6 +21,8 @@ fn refusal_at(step: u32, judged: Judged) -> Option<Verdict>
         Judged::Differs => Some(Verdict::Differs { step }),
         Judged::NoRewrite { occurrences } => Some(Verdict::NoRewrite { step, occurrences }),
         Judged::TooWide { placements } => Some(Verdict::TooWide { step, placements }),
+        Judged::SimpDiffers => Some(Verdict::SimpDiffers { step }),
+        Judged::SimpLimit => Some(Verdict::SimpLimit { step }),
     }
 }
 
@@ -65,7 +47,6 @@ fn first_refused(
     requires few { length terms.now < 2 ^ 32 }
     requires enough { length terms.now ≤ length steps.now + 1 }
     requires usable { AreUsable (reasons_of steps.now) }
-    requires plain { needs_simp (moves_of terms.now (reasons_of steps.now)) ≡ false }
     ensures some { IfOk result (λ found. IfSome found (λ verdict. StopsWith (moves_of terms.now (reasons_of steps.now)) verdict)) }
     ensures none { IfOk result (λ found. IfNone found (AreGood (moves_of terms.now (reasons_of steps.now)) (length terms.now - 1))) }
 {
@@ -95,9 +76,6 @@ pub(crate) fn verdict_on_steps(alloc: Global, body: &Body) -> Result<Verdict, No
 {
     let terms = body.terms.as_slice();
     let steps = body.steps.as_slice();
-    if needs_simp(terms, steps) {
-        return Ok(Verdict::NotBuilt);
-    }
     match first_refused(alloc, terms, steps)? {
         Some(verdict) => Ok(verdict),
         None if is_open(body) => Ok(Verdict::Unfinished),

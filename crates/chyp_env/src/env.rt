@@ -1,5 +1,5 @@
 // What names stand for.
-ghost use Rattle.std.specs.Prelude.{◌≡◌, ℕ, [], ◌∷◌, ◌++◌, false, IfSome, IfNone, IfOk, OnOk, OnErr, Some, None};
+ghost use Rattle.std.specs.Prelude.{◌≡◌, ◌<◌, ℕ, [], ◌∷◌, ◌++◌, false, length, slice_get, IfSome, IfNone, IfOk, OnOk, OnErr, Some, None};
 ghost use Rattle.chyp_env.specs.Entry.{entry_of, sense_of};
 ghost use Rattle.chyp_env.specs.Environment.{binding_of, is_bound};
 ghost use Rattle.chyp_env.specs.Sound.{IsSound, IsSoundSense};
@@ -31,7 +31,7 @@ impl Model for Env {
 
     ghost use Rattle.chyp_env.specs.Entry.{entry_of};
     ghost use Rattle.chyp_env.specs.Kept.{IsKept};
-        ghost use Rattle.chyp_env.specs.Sound.{HasDistinctNames};
+    ghost use Rattle.chyp_env.specs.Sound.{HasDistinctNames};
 
     ghost view = { λ e. map (λ pair. entry_of pair.1) e.entries.entries };
 
@@ -59,6 +59,24 @@ impl Env {
         self.entries.get(name)
     }
 
+    /// How many names are bound.
+    pub fn count(&self) -> usize
+        ensures { result ≡ length self.now }
+    {
+        self.entries.len()
+    }
+
+    /// The entry of this number, in the order of binding. It takes constant time, and no memory.
+    pub fn entry(&self, number: usize) -> &Entry
+        requires { number < length self.now }
+        ensures { slice_get self.now number ≡ Some (entry_of result.now) }
+    {
+        match self.entries.get_index(number) {
+            Some((_, entry)) => entry,
+            None => unreachable!(),
+        }
+    }
+
     /// Every environment is sound.
     pub fn sound(&self)
         ensures { IsSound self.now }
@@ -71,8 +89,7 @@ impl Env {
     /// # Errors
     ///
     /// `NoMemory` where they can't be kept, or can't be shared once more.
-    pub fn plain_wires(&self) -> Result<PlainWires, NoMemory>
-    {
+    pub fn plain_wires(&self) -> Result<PlainWires, NoMemory> {
         match &self.plain {
             Some(plain) => plain.share(),
             None => PlainWires::new(self.allocator()),

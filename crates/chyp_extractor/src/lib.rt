@@ -1,4 +1,4 @@
-//! The term that is read back from a graph, made, and measured without making it.
+//! The term that is read back from a graph, made, and measured without making it. No command needs it yet.
 //!
 //! [`extract`] gives exactly the term that the definition in `chyp_extract` reads back from a graph: one
 //! chain, halved, of permutations and of layers of boxes and wires, round by round. By the laws there it

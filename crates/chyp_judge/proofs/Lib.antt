@@ -1,2 +1,5 @@
 pub mod Tried
 pub mod Giving
+pub mod Walking
+pub mod Partnering
+pub mod Tracing

@@ -21,25 +21,13 @@ use Rattle.chyp_match.specs.Occurring.{OccurrencesAreBounded}
 use Rattle.chyp_replace.proofs.Sizes.{replaced-edges, replaced-wires}
 use Rattle.chyp_laws.specs.Laws.{DerivationsAreIsomorphisms, IsomorphismsAreDerivations}
 use Rattle.chyp_laws.specs.Rewriting.{RewritesAreGraphs}
-use Rattle.chyp_laws.proofs.Draws.{draw_s}
-use Rattle.chyp_extract.proofs.ReplacedValid.{drawn_types}
-use Rattle.chyp_judge.specs.Judged.{HavePlacements, IsJudgement, derived, most_placements, not_derived, rewrites, rewrites_not}
+use Rattle.chyp_simp.specs.Run.{most_placements}
+use Rattle.chyp_simp.proofs.Contexts.{graph-rule}
+use Rattle.chyp_judge.specs.Judged.{HavePlacements, IsJudgement, derived, not_derived, rewrites, rewrites_not}
 use Rattle.chyp_judge.specs.Rewrite.{HaveSizes, IsRewrite, IsTried, missed, reached}
 use Rattle.chyp_judge.specs.declared.judged.Judged.{Judged}
 use Rattle.chyp_judge.specs.declared.judged.Judged.TheVariants.{Differs, Good}
 use Rattle.chyp_judge.specs.declared.rewrite.Rewrite.{Rewrite}
-
--- the graphs of the sides of an equation are a rule
-pub graph-rule : (l r : Morphism) → IsEquation l r → IsGraphRule (graph_of l) (graph_of r)
-graph-rule l r e =
-    let a = drawn_types l e.left (graph_of l) (draw_s l e.left) in
-    let b = drawn_types r e.right (graph_of r) (draw_s r e.right) in
-    record {
-      left = valid l e.left;
-      right = valid r e.right;
-      inputs = a.0 ∙ e.doms ∙ sym b.0;
-      outputs = a.1 ∙ e.cods ∙ sym b.1;
-    }
 
 -- the rewrite of these graphs
 abbrev pub rewrite_of : List Anchor → PlainGraph → PlainGraph → PlainGraph → PlainGraph → Rewrite

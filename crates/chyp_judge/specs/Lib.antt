@@ -1,2 +1,4 @@
 pub mod Judged
 pub mod Rewrite
+pub mod Walk
+pub mod Differences

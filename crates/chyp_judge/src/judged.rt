@@ -12,9 +12,15 @@ pub enum Judged {
         /// How many convex occurrences the left side of the rule has in the first term.
         occurrences: u64,
     },
-    /// The left side of the rule has too many placements in the first term for the step to be judged.
+    /// The left side of a rule has too many placements in a term, or in a graph to which rules lead it,
+    /// for the step to be judged.
     TooWide {
         /// How many there are, or 2^64 - 1 where there are more.
         placements: u64,
     },
+    /// The rules lead both terms to normal forms, but the monoidal laws alone don't give the equation
+    /// of these.
+    SimpDiffers,
+    /// The rules lead a term on past the limit on rewrites.
+    SimpLimit,
 }

@@ -1,4 +1,2 @@
 // What no step of a rewrite may pass.
-
-/// The most placements of a rule's left side in the term of a step.
-pub const MOST_PLACEMENTS: u64 = 65_536;
+pub use chyp_simp::{MOST_PLACEMENTS, MOST_REWRITES};

@@ -3,9 +3,11 @@ ghost use Rattle.std.specs.Prelude.{◌≡◌, ◌+◌, ◌<◌, ◌^◌, IfOk};
 ghost use Rattle.std.specs.Bool.{MatchBool};
 ghost use Rattle.chyp_pattern.specs.Occurrence.{IsOccurrence};
 ghost use Rattle.chyp_iso.specs.Scratch.{HasRoomFor};
+ghost use Rattle.chyp_judge.specs.Differences.{AreDifferences};
 ghost use Rattle.chyp_judge.specs.Rewrite.{AreAll, HaveSizes, IsBegun, IsRewrite, IsTried, Reaches};
 
 use crate::Judged;
+use crate::differences::{Differences, find_differences, is_ruled_out, none_known};
 use chyp_base::NoMemory;
 use chyp_graph::Graph;
 use chyp_iso::{Scratch, same};
@@ -63,7 +65,8 @@ fn count_all(occurrences: &mut Occurrences) -> u64
 }
 
 /// Good where an occurrence reaches the graph that is to come out; else with the number of
-/// occurrences.
+/// occurrences. Where the first one doesn't, the differences of the two graphs rule out each further
+/// one that leaves one of them where it is.
 fn try_all(
     alloc: Global,
     rewrite: &Rewrite,
@@ -79,9 +82,11 @@ fn try_all(
     let edges = rewrite.to.edge_count();
     let wires = rewrite.to.wire_count();
     let mut scratch = Scratch::for_sizes(alloc, edges, wires)?;
+    let mut known = none_known();
     let mut tried = 0;
     while let Some(at) = occurrences.next() {
-        if reaches(&mut scratch, rewrite, at)? {
+        known = learn(alloc, rewrite, tried, known)?;
+        if reaches(&mut scratch, rewrite, &known, at)? {
             return Ok(Judged::Good);
         }
         tried += 1;
@@ -89,8 +94,48 @@ fn try_all(
     Ok(Judged::NoRewrite { occurrences: tried })
 }
 
+/// The differences that are known once so many occurrences have been tried: those of the two graphs
+/// are looked for once, when the first occurrence has been tried in vain.
+fn learn(
+    alloc: Global,
+    rewrite: &Rewrite,
+    tried: u64,
+    known: Differences,
+) -> Result<Differences, NoMemory>
+    requires rewrite { IsRewrite rewrite.now }
+    requires known { AreDifferences rewrite.now known }
+    ensures { IfOk result (AreDifferences rewrite.now) }
+{
+    if tried == 1 {
+        return find_differences(alloc, rewrite);
+    }
+    Ok(known)
+}
+
+/// Whether the one graph, with this occurrence replaced, is isomorphic to the other one. The graph
+/// with the occurrence replaced is made only where no difference that is known rules it out.
+fn reaches(
+    scratch: &mut Scratch,
+    rewrite: &Rewrite,
+    known: &Differences,
+    at: &Occurrence,
+) -> Result<bool, NoMemory>
+    requires rewrite { IsRewrite rewrite.now }
+    requires sizes { HaveSizes rewrite.now }
+    requires known { AreDifferences rewrite.now known.now }
+    requires room { HasRoomFor scratch.old.edges scratch.old.wires rewrite.now.to }
+    requires occurs { IsOccurrence rewrite.now.left.graph rewrite.now.from at.now.edges at.now.wires }
+    ensures same { scratch.new ≡ scratch.old }
+    ensures outcome { IfOk result (λ outcome. MatchBool outcome (Reaches rewrite.now at.now) (Reaches rewrite.now at.now → ⊥)) }
+{
+    if is_ruled_out(rewrite, known, at) {
+        return Ok(false);
+    }
+    is_reached(scratch, rewrite, at)
+}
+
 /// Whether the one graph, with this occurrence replaced, is isomorphic to the other one.
-fn reaches(scratch: &mut Scratch, rewrite: &Rewrite, at: &Occurrence) -> Result<bool, NoMemory>
+fn is_reached(scratch: &mut Scratch, rewrite: &Rewrite, at: &Occurrence) -> Result<bool, NoMemory>
     requires rewrite { IsRewrite rewrite.now }
     requires sizes { HaveSizes rewrite.now }
     requires room { HasRoomFor scratch.old.edges scratch.old.wires rewrite.now.to }

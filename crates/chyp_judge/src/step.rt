@@ -1,10 +1,10 @@
 // Judging one step of a rewrite.
 ghost use Rattle.std.specs.Prelude.{◌≡◌, ◌≤◌, IfOk};
 ghost use Rattle.chyp_term.specs.Derivation.{IsEquation};
-ghost use Rattle.chyp_term.specs.Equation.{equation_of};
+ghost use Rattle.chyp_term.specs.Equation.{equation_of, equations_of};
 ghost use Rattle.chyp_term.specs.Limits.{IsWithinLimits, most_size};
 ghost use Rattle.chyp_term.specs.Measure.{size_of};
-ghost use Rattle.chyp_term.specs.Step.{by_laws, by_rule, reason_of};
+ghost use Rattle.chyp_term.specs.Step.{by_laws, by_rule, by_simp, reason_of};
 ghost use Rattle.chyp_term.specs.Term.{morphism_of};
 ghost use Rattle.chyp_judge.specs.Judged.{CanBeJudged, IsJudgement};
 
@@ -16,16 +16,17 @@ use chyp_iso::{Scratch, same};
 use chyp_laws::{graphs_decide_the_laws, rewrites_are_graphs};
 use chyp_match::{occurrences_are_few, placements};
 use chyp_pattern::Pattern;
+use chyp_simplifier::{Comparison, compare};
 use chyp_term::{Equation, Step, Term};
 use std::alloc::Global;
 
 /// Judges the step from one term to another that has its type, both within the limits on one term: by
-/// the monoidal laws alone, or by a rule, whose sides are within these limits too. A step by `simp` is
-/// not judged.
+/// the monoidal laws alone, by a rule, whose sides are within these limits too, or by the normal forms to
+/// which such rules lead.
 ///
 /// # Errors
 ///
-/// `NoMemory` where the graphs of the terms can't be kept or compared.
+/// `NoMemory` where the graphs of the terms can't be kept, searched or compared.
 pub fn judge(alloc: Global, from: &Term, to: &Term, step: &Step) -> Result<Judged, NoMemory>
     requires equation { IsEquation (morphism_of from.now) (morphism_of to.now) }
     requires within_from { IsWithinLimits (morphism_of from.now) }
@@ -36,7 +37,7 @@ pub fn judge(alloc: Global, from: &Term, to: &Term, step: &Step) -> Result<Judge
     match step {
         Step::Refl => judge_by_laws(alloc, from, to),
         Step::ByRule(rule) => judge_by_rule(alloc, from, to, rule),
-        Step::Simp(_) => unreachable!(),
+        Step::Simp(rules) => judge_by_simp(alloc, from, to, rules.as_slice()),
     }
 }
 
@@ -86,4 +87,25 @@ fn judge_by_rule(alloc: Global, from: &Term, to: &Term, rule: &Equation) -> Resu
             to,
         },
     )
+}
+
+/// As the normal forms compare to which the rules lead the terms.
+fn judge_by_simp(
+    alloc: Global,
+    from: &Term,
+    to: &Term,
+    rules: &[Equation],
+) -> Result<Judged, NoMemory>
+    requires equation { IsEquation (morphism_of from.now) (morphism_of to.now) }
+    requires within_from { IsWithinLimits (morphism_of from.now) }
+    requires within_to { IsWithinLimits (morphism_of to.now) }
+    requires rules { CanBeJudged (by_simp (equations_of rules.now)) }
+    ensures { IfOk result (λ judged. IsJudgement (by_simp (equations_of rules.now)) (morphism_of from.now) (morphism_of to.now) judged) }
+{
+    match compare(alloc, from, to, rules)? {
+        Comparison::Equal => Ok(Judged::Good),
+        Comparison::Different => Ok(Judged::SimpDiffers),
+        Comparison::TooWide { placements } => Ok(Judged::TooWide { placements }),
+        Comparison::AtLimit => Ok(Judged::SimpLimit),
+    }
 }

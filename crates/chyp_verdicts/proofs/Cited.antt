@@ -1,6 +1,5 @@
 -- The names behind the `by`s of a statement that nothing refuses are those of laws.
-use Rattle.std.proofs.Common.{◌≡◌, ℕ, Bool, true, false, ◌||◌, List, [], ◌∷◌, map, Option, Some, None, slice_get, All, ◌⊎◌, inl, inr, refl, sym, ◌∙◌, ap, subst, arith}
-use Rattle.std.proofs.lemmas.Bool.{false≢true}
+use Rattle.std.proofs.Common.{◌≡◌, ℕ, Bool, true, false, List, [], ◌∷◌, map, Option, Some, None, slice_get, All, ◌⊎◌, inl, inr, refl, sym, ◌∙◌, ap, subst, arith}
 use Rattle.std.specs.Prelude.{Contains, flat_map, if◌then◌else◌}
 use Rattle.std.specs.List.{cons_option, filter_map}
 use Rattle.std.specs.Option.{option_map_or}
@@ -20,7 +19,8 @@ use Rattle.chyp_env.specs.Site.{Site}
 use Rattle.chyp_env.specs.Sound.{IsSound, IsSoundSense}
 use Rattle.chyp_names.specs.Elaboration.{Passes, equation_at, equation_of_sense, reason_at, steps_at}
 use Rattle.chyp_names.specs.Naming.{in_reason, fault_of, fault_in_reason, fault_or_unknown, names_of_reason, unproved_token, unproved_use, uses_in, uses_in_goal, uses_in_step, uses_of}
-use Rattle.chyp_verdicts.specs.Steps.{AreUsable, IsUsable, rules_of}
+use Rattle.chyp_simp.specs.Laws.{IsUsable}
+use Rattle.chyp_verdicts.specs.Steps.{AreUsable, rules_of}
 use Rattle.chyp_verdicts.proofs.Bindings.{Contains-from_cons, Contains-map, All-from, binding-found}
 use Rattle.chyp_verdicts.proofs.Derivations.{Equation}
 
@@ -112,10 +112,6 @@ reason-laws P site (Simp rules) each =
   where
     go : (signed : SignedAst) → (at : IsLawThere site signed.name) × P (at.first, at.last) × P (at.last, at.first) → P (equation_at site.scope signed)
     go signed h = elim (equation-law site signed h.0) [ inl e ↦ subst P (sym e) h.1 | inr e ↦ subst P (sym e) h.2 ]
-
-pub or-false : (a b : Bool) → (a || b) ≡ false → (a ≡ false) × (b ≡ false)
-or-false true b e = absurd (false≢true (sym e))
-or-false false b e = (refl, e)
 
 turned : (e : Equation) → IsUsable e → IsUsable (e.1, e.0)
 turned e h = let is = h.0 in (record { left = is.right; right = is.left; doms = sym is.doms; cods = sym is.cods }, h.2, h.1)

@@ -1,5 +1,5 @@
 -- What the verdicts of a text say of its rewrites is so.
-use Rattle.std.proofs.Common.{◌≡◌, ℕ, suc, ◌+◌, ◌<◌, ◌≤◌, true, List, [], ◌∷◌, Some, slice_get, All, refl, sym, ◌∙◌, ap, subst, arith}
+use Rattle.std.proofs.Common.{◌≡◌, ℕ, suc, ◌+◌, ◌<◌, ◌≤◌, true, List, [], ◌∷◌, Some, slice_get, All, inl, inr, refl, sym, ◌∙◌, ap, subst, arith}
 use Rattle.std.proofs.lemmas.Bool.{false≢true}
 use Rattle.std.proofs.lemmas.List.Elements.{All-append, All-cons, All-contains, All-nil}
 use Rattle.chyp_base.specs.declared.verdict.Verdict.{Verdict}
@@ -11,10 +11,10 @@ use Rattle.chyp_syntax.specs.Term.{TermTree}
 use Rattle.chyp_syntax.specs.Statement.{rule, rewrite, StatementTree}
 use Rattle.chyp_syntax.specs.Words.{Word, bytes_at}
 use Rattle.chyp_term.specs.Morphism.{Morphism}
-use Rattle.chyp_term.specs.Step.{Reason, by_laws, by_rule}
+use Rattle.chyp_term.specs.Step.{Reason, by_laws, by_rule, by_simp}
 use Rattle.chyp_env.specs.Environment.{Binding, law}
 use Rattle.chyp_env.specs.Site.{Site, there, nothing as nothing'}
-use Rattle.chyp_judge.specs.Judged.{IsJudgement, derived, not_derived, rewrites, rewrites_not, wide}
+use Rattle.chyp_judge.specs.Judged.{IsJudgement, derived, not_derived, rewrites, rewrites_not, simp_limit, simp_wide, simplifies, simplifies_not, wide}
 use Rattle.chyp_judge.specs.declared.judged.Judged.{Judged}
 use Rattle.chyp_names.specs.Binding.{Binds, nothing, again, anew, imports}
 use Rattle.chyp_names.specs.Elaboration.{expansion_at, has_hole, steps_at, terms_of}
@@ -22,7 +22,7 @@ use Rattle.chyp_verdicts.specs.Explained.{Explains, HasProof, HasStep, IsEarlier
 use Rattle.chyp_verdicts.specs.Judged.{IsJudged, accepted, by_steps, moves_at, no_sentence, refused}
 use Rattle.chyp_verdicts.specs.Rules.{Cites, IsRewriteOf, Permits, RestsOn, by_name, itself}
 use Rattle.chyp_verdicts.specs.Standing.{Gets, Means, Origin}
-use Rattle.chyp_verdicts.specs.Steps.{IsVerdictOnSteps, StopsWith, judged, not_built, proved, refusal_at, stops, unfinished}
+use Rattle.chyp_verdicts.specs.Steps.{IsVerdictOnSteps, StopsWith, proved, refusal_at, stops, unfinished}
 use Rattle.chyp_verdicts.specs.Texts.{Makes, Stands, at_start, one_more, site, statements_of}
 use Rattle.chyp_verdicts.proofs.Bindings.{binding-found}
 use Rattle.chyp_verdicts.proofs.Derived.{AreLawsDerived, binds-derived, rewrite-derived}
@@ -130,16 +130,22 @@ module _ (known : Known) (ss : List (List Word)) where
       go reason from to j at (derived d) e = absurd cc
       go reason from to j at (not_derived d) e = same _ e (record { from = from; to = to; is_step = step by_laws from to at; none = d })
       go reason from to j at (wide {l} {r} {n = m} p h) e =
-          same _ e (record { left = l; right = r; from = from; to = to; is_step = step (by_rule (l, r)) from to at; many = h; are = p })
+          same _ e (inl (record { left = l; right = r; from = from; to = to; is_step = step (by_rule (l, r)) from to at; many = h; are = p }))
       go reason from to j at (rewrites p h c) e = absurd cc
       go reason from to j at (rewrites_not {l} {r} p h c o) e =
           same _ e (record { left = l; right = r; from = from; to = to; is_step = step (by_rule (l, r)) from to at; none = c; occur = o })
+      go reason from to j at (simplifies c) e = absurd cc
+      go reason from to j at (simplifies_not {rules} c) e = same _ e (record { rules = rules; from = from; to = to; is_step = step (by_simp rules) from to at; is = c })
+      go reason from to j at (simp_wide {rules} c) e = same _ e (inr (record { rules = rules; from = from; to = to; is_step = step (by_simp rules) from to at; is = c }))
+      go reason from to j at (simp_limit {rules} c) e = same _ e (record { rules = rules; from = from; to = to; is_step = step (by_simp rules) from to at; is = c })
 
   refusal-explained : (n : ℕ) (v : Verdict) → is_refusal v ≡ true → Explains ss n v
   refusal-explained n Proved e = absurd (false≢true e)
   refusal-explained n (verdict.Differs k) e = absurd (false≢true e)
   refusal-explained n (verdict.NoRewrite k m) e = absurd (false≢true e)
   refusal-explained n (verdict.TooWide k m) e = absurd (false≢true e)
+  refusal-explained n (verdict.SimpDiffers k) e = absurd (false≢true e)
+  refusal-explained n (verdict.SimpLimit k) e = absurd (false≢true e)
   refusal-explained n v e = tt
 
   explained : (n : ℕ) (v : Verdict) → Gets (Stands ss) ([], n) v → Explains ss n v
@@ -153,10 +159,9 @@ module _ (known : Known) (ss : List (List Word)) where
         where
           steps-go : (w : Verdict)
               → IsVerdictOnSteps (terms_of g.site (rewrite name first steps)) (steps_at g.site.scope (rewrite name first steps)) (has_hole (rewrite name first steps)) w → v ≡ w → Explains ss n w
-          steps-go w (not_built m) e = tt
-          steps-go w (judged m (stops s)) e = stops-explained n g.site (rewrite name first steps) g.stands t w s
-          steps-go w (judged m (unfinished a o)) e = tt
-          steps-go w (judged m (proved a o)) e = has-proof n g.site name first steps g.stands t (subst (IsJudged g.site) e (by_steps t p x))
+          steps-go w (stops s) e = stops-explained n g.site (rewrite name first steps) g.stands t w s
+          steps-go w (unfinished a o) e = tt
+          steps-go w (proved a o) e = has-proof n g.site name first steps g.stands t (subst (IsJudged g.site) e (by_steps t p x))
 
 -- what the verdicts of a text say is so
 pub verdicts-explained : Known → VerdictsAreExplained

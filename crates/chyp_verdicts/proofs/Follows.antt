@@ -21,11 +21,12 @@ use Rattle.chyp_names.specs.Elaboration.{Passes, expansion_at, has_hole, reason_
 use Rattle.chyp_names.specs.Typing.{AreTypedAlike}
 use Rattle.chyp_verdicts.specs.Judged.{IsJudged, accepted, by_steps, moves_at, no_sentence, refused}
 use Rattle.chyp_verdicts.specs.Rules.{cited_by, ProvedRewritesFollow}
-use Rattle.chyp_verdicts.specs.Steps.{AreGood, AreUsable, IsUsable, IsVerdictOnSteps, Move, judged, moves_of, not_built, proved, rules_of, stops, unfinished}
+use Rattle.chyp_verdicts.specs.Steps.{AreGood, AreUsable, IsVerdictOnSteps, Move, moves_of, proved, rules_of, stops, unfinished}
 use Rattle.chyp_verdicts.proofs.Bindings.{All-from}
 use Rattle.chyp_verdicts.proofs.Cited.{Contains-flat_map, reasons-usable}
 use Rattle.chyp_verdicts.proofs.Derivations.{Equation, weaken}
-use Rattle.chyp_verdicts.proofs.Judgements.{AreEquations, judgement-sound}
+use Rattle.chyp_simp.specs.Laws.{AreEquations, IsUsable}
+use Rattle.chyp_verdicts.proofs.Judgements.{judgement-sound}
 use Rattle.chyp_verdicts.proofs.Known.{Known}
 use Rattle.chyp_verdicts.proofs.OneVerdict.{some-once}
 use Rattle.chyp_verdicts.proofs.SomeBinding.{goals_at, refusal-bad, refused-bad}
@@ -45,7 +46,7 @@ walk E t (u ∷ us) (reason ∷ reasons) few among alike all last l =
     let move : Move = record { reason = reason; from = t; to = u } in
     let here : IsJudgement reason t u Good = all 0 move (omega arith) refl in
     let mine : IsAmong E reason = among 0 reason (omega arith) in
-    let first : Derives E t u = weaken E (rules_of reason) mine.1 (judgement-sound reason t u mine.0 here) in
+    let first : Derives E t u = weaken E (rules_of reason) mine.1 (judgement-sound reason t u (alike 0 t (omega arith) 1 u (omega arith)) mine.0 here) in
     let at : length (t ∷ u ∷ us) - 1 ≡ suc (length (u ∷ us) - 1) = omega arith in
     chain first
     (walk E u us reasons (omega arith) (λ k d h. among (suc k) d (omega arith)) (λ j d i k f n. alike (suc j) d (omega arith) (suc k) f (omega arith))
@@ -83,10 +84,9 @@ proved-steps site v e (by_steps {name} {first} {steps} t p x) = go v x e
   where
     go : (w : Verdict) → IsVerdictOnSteps (terms_of site (rewrite name first steps)) (steps_at site.scope (rewrite name first steps)) (has_hole (rewrite name first steps)) w → w ≡ Proved
         → ProvedSteps site
-    go w (not_built n) e = absurd cc
-    go w (judged n (stops s)) e = absurd ((refusal-bad (s.k + 1) s.judged w s.refuses).0 e)
-    go w (judged n (unfinished f o)) e = absurd cc
-    go w (judged n (proved f o)) e = record { name = name; first = first; steps = steps; is_sentence = t; passes = p; all_good = f }
+    go w (stops s) e = absurd ((refusal-bad (s.k + 1) s.judged w s.refuses).0 e)
+    go w (unfinished f o) e = absurd cc
+    go w (proved f o) e = record { name = name; first = first; steps = steps; is_sentence = t; passes = p; all_good = f }
 
 -- a proved rewrite follows from what it cites
 pub proved-follows : Known → ProvedRewritesFollow

@@ -1,8 +1,6 @@
 pub mod Known
 pub mod Bindings
 pub mod Derivations
-pub mod Components
-pub mod Placed
 pub mod Judgements
 pub mod Cited
 pub mod OneVerdict

@@ -19,7 +19,7 @@ use Rattle.chyp_judge.specs.Judged.{IsJudgement}
 use Rattle.chyp_judge.specs.declared.judged.Judged.{Judged}
 use Rattle.chyp_judge.specs.declared.judged.Judged.TheVariants.{Good}
 use Rattle.chyp_verdicts.specs.Judged.{IsJudged, no_sentence, refused, accepted, by_steps, is_rewrite}
-use Rattle.chyp_verdicts.specs.Steps.{AreGood, IsVerdictOnMoves, IsVerdictOnSteps, Move, StopsWith, is_open, judged, moves_of, not_built, proved, refusal_at, stops, unfinished}
+use Rattle.chyp_verdicts.specs.Steps.{AreGood, IsVerdictOnMoves, IsVerdictOnSteps, Move, StopsWith, is_open, moves_of, proved, refusal_at, stops, unfinished}
 use Rattle.chyp_verdicts.proofs.Judgements.{judgement-once}
 use Rattle.chyp_verdicts.proofs.Known.{Known}
 
@@ -153,10 +153,7 @@ moves-once moves o v w (proved g p) (unfinished h q) = absurd (true-false o q p)
 moves-once moves o v w (proved g p) (proved h q) = refl
 
 pub steps-once : (terms : List Morphism) (reasons : List Reason) (hole : Bool) (v w : Verdict) → IsVerdictOnSteps terms reasons hole v → IsVerdictOnSteps terms reasons hole w → v ≡ w
-steps-once terms reasons hole v w (not_built n) (not_built m) = refl
-steps-once terms reasons hole v w (not_built n) (judged m x) = absurd (true-false _ n m)
-steps-once terms reasons hole v w (judged n x) (not_built m) = absurd (true-false _ m n)
-steps-once terms reasons hole v w (judged n x) (judged m y) = moves-once (moves_of terms reasons) (is_open reasons hole) v w x y
+steps-once terms reasons hole v w x y = moves-once (moves_of terms reasons) (is_open reasons hole) v w x y
 
 -- the verdict on the steps of a rewrite
 abbrev on_tree : Site → Verdict → StatementTree → Type 0

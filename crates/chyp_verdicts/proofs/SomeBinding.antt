@@ -26,13 +26,13 @@ use Rattle.chyp_env.specs.Scope.{binding_at}
 use Rattle.chyp_env.specs.Site.{Imported, nothing, absent, on_cycle, there, Site}
 use Rattle.chyp_env.specs.Sound.{IsSound, IsSoundSense}
 use Rattle.chyp_names.specs.Binding.{IsRewrite, StandsFor, a_declared_generator, a_term, a_rule, a_proved_rewrite, an_unproved_rewrite, a_broken_statement}
-use Rattle.chyp_names.specs.Elaboration.{Passes, IsRefused, fault_of_module, import_fault, prefix_at, declared, at_import, at_name, too_big, mistyped, unproved as rests_on_unproved, expansion_at, generator_name, terms_of}
+use Rattle.chyp_names.specs.Elaboration.{Passes, has_hole, steps_at, IsRefused, fault_of_module, import_fault, prefix_at, declared, at_import, at_name, too_big, mistyped, unproved as rests_on_unproved, expansion_at, generator_name, terms_of}
 use Rattle.chyp_names.specs.Naming.{Use, in_term, in_reason, in_show, fault_of, fault_in_reason, fault_in_term, fault_or_unknown, uses_of}
 use Rattle.chyp_names.specs.Typing.{AreTypedAlike}
 use Rattle.chyp_judge.specs.declared.judged.Judged.{Judged}
-use Rattle.chyp_judge.specs.declared.judged.Judged.TheVariants.{Differs, Good, NoRewrite, TooWide}
+use Rattle.chyp_judge.specs.declared.judged.Judged.TheVariants.{Differs, Good, NoRewrite, SimpDiffers, SimpLimit, TooWide}
 use Rattle.chyp_verdicts.specs.Judged.{IsJudged, no_sentence, refused, accepted, by_steps, is_rewrite}
-use Rattle.chyp_verdicts.specs.Steps.{IsVerdictOnSteps, judged, not_built, proved, refusal_at, stops, unfinished}
+use Rattle.chyp_verdicts.specs.Steps.{IsVerdictOnSteps, proved, refusal_at, stops, unfinished}
 use Rattle.chyp_syntax.proofs.Verdicts.{same-kinds}
 use Rattle.chyp_verdicts.proofs.OneBinding.{imports-nothing, sentence-begins}
 use Rattle.chyp_verdicts.proofs.OneVerdict.{none-some, slice_get-read}
@@ -50,6 +50,8 @@ is_refusal Unfinished = false
 is_refusal (verdict.Differs step) = false
 is_refusal (verdict.NoRewrite step occurrences) = false
 is_refusal (verdict.TooWide step placements) = false
+is_refusal (verdict.SimpDiffers step) = false
+is_refusal (verdict.SimpLimit step) = false
 is_refusal _ = true
 
 this : (w v : Verdict) → is_refusal w ≡ true → Some w ≡ Some v → is_refusal v ≡ true
@@ -177,13 +179,14 @@ refusal-bad n Good v e = absurd cc
 refusal-bad n Differs v e = (λ p. absurd cc, λ p. absurd cc)
 refusal-bad n (NoRewrite k) v e = (λ p. absurd cc, λ p. absurd cc)
 refusal-bad n (TooWide k) v e = (λ p. absurd cc, λ p. absurd cc)
+refusal-bad n SimpDiffers v e = (λ p. absurd cc, λ p. absurd cc)
+refusal-bad n SimpLimit v e = (λ p. absurd cc, λ p. absurd cc)
 
 -- a rewrite is proved, or its verdict isn't good
 pub steps-bad : (terms : List Morphism) (reasons : List Reason) (hole : Bool) (v : Verdict) → IsVerdictOnSteps terms reasons hole v → (v ≡ Proved) ⊎ IsBad v
-steps-bad terms reasons hole v (not_built n) = inr (λ p. absurd cc, λ p. absurd cc)
-steps-bad terms reasons hole v (judged n (stops s)) = inr (refusal-bad (s.k + 1) s.judged v s.refuses)
-steps-bad terms reasons hole v (judged n (unfinished g o)) = inr (λ p. absurd cc, λ p. absurd cc)
-steps-bad terms reasons hole v (judged n (proved g o)) = inl refl
+steps-bad terms reasons hole v (stops s) = inr (refusal-bad (s.k + 1) s.judged v s.refuses)
+steps-bad terms reasons hole v (unfinished g o) = inr (λ p. absurd cc, λ p. absurd cc)
+steps-bad terms reasons hole v (proved g o) = inl refl
 
 -- the name of a rewrite that nothing refuses
 steps-sense : (s : Site) (name : ℕ) (tree : TermTree) (steps : List StepTree) (v : Verdict) → IsSentence s.scope.words (rewrite name tree steps) → Passes s (rewrite name tree steps)
@@ -206,7 +209,9 @@ steps-sense s name tree steps v t p alike (inl is) =
 pub some-sense : PassingTermsAreTyped → (s : Site) → IsSound s.scope.env → (v : Verdict) (name : List ℕ) → declared_name s.scope.words ≡ Some name → IsJudged s v → SomeSense s v
 some-sense typed s env v name e (no_sentence f) = bad-sense s v (λ p. absurd cc, λ p. absurd cc)
 some-sense typed s env v name e (refused {tree} t r) = bad-sense s v (refused-bad s tree v r)
-some-sense typed s env v name e (by_steps {name = n} {first} {steps} t p x) = steps-sense s n first steps v t p (typed s env (rewrite n first steps) p) (steps-bad _ _ _ v x)
+some-sense typed s env v name e (by_steps {name = n} {first} {steps} t p x) =
+    let tree = rewrite n first steps in
+    steps-sense s n first steps v t p (typed s env tree p) (steps-bad (terms_of s tree) (steps_at s tree) (has_hole tree) v x)
 some-sense typed s env v name e (accepted {tree} t p n) = go tree t p n
   where
     go : (tree : StatementTree) → IsSentence s.scope.words tree → Passes s tree → is_rewrite tree ≡ false → SomeSense s Accepted

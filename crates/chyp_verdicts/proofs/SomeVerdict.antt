@@ -1,9 +1,9 @@
 -- Each statement gets a verdict.
-use Rattle.std.proofs.Common.{◌≡◌, ℕ, zero, suc, ◌+◌, ◌<◌, ◌≤◌, Bool, true, false, List, [], ◌∷◌, length, Option, Some, None, All, sum_by, ◌⊎◌, inl, inr, refl, sym, ◌∙◌, ap, subst, arith}
-use Rattle.std.proofs.lemmas.Bool.{cases_lt, false≢true}
+use Rattle.std.proofs.Common.{◌≡◌, ℕ, zero, suc, ◌+◌, ◌<◌, ◌≤◌, Bool, true, false, List, [], ◌∷◌, length, Option, Some, None, All, sum_by, ◌⊎◌, inl, inr, refl, ◌∙◌, ap, subst, arith}
+use Rattle.std.proofs.lemmas.Bool.{cases_lt}
 use Rattle.std.proofs.lemmas.List.Elements.{All-cons, All-nil}
 use Rattle.chyp_base.specs.declared.verdict.Verdict.{Verdict}
-use Rattle.chyp_base.specs.declared.verdict.Verdict.TheVariants.{NotBuilt, Proved, Unfinished, Syntax, TooBig, Declared, Mistyped, Unproved, Accepted}
+use Rattle.chyp_base.specs.declared.verdict.Verdict.TheVariants.{Proved, Unfinished, Syntax, TooBig, Declared, Mistyped, Unproved, Accepted}
 use Rattle.chyp_syntax.specs.Failing.{IsSentenceOrFails}
 use Rattle.chyp_syntax.specs.Sentence.{IsSentence}
 use Rattle.chyp_syntax.specs.Statement.{StatementTree, generator as a_gen, definition, rule, rewrite, inclusion, showing}
@@ -20,12 +20,13 @@ use Rattle.chyp_names.specs.Elaboration.{Passes, IsRefused, declared, at_import,
 use Rattle.chyp_names.specs.Limits.{AreWithinLimits, HasFewPorts, most_together}
 use Rattle.chyp_names.specs.Naming.{first_fault, first_unproved}
 use Rattle.chyp_names.specs.Typing.{AreTypedAlike}
+use Rattle.chyp_simp.specs.Laws.{IsUsable}
 use Rattle.chyp_judge.specs.Judged.{CanBeJudged, IsJudgement}
 use Rattle.chyp_judge.specs.declared.judged.Judged.{Judged}
-use Rattle.chyp_judge.specs.declared.judged.Judged.TheVariants.{Differs, Good, NoRewrite, TooWide}
+use Rattle.chyp_judge.specs.declared.judged.Judged.TheVariants.{Differs, Good, NoRewrite, SimpDiffers, SimpLimit, TooWide}
 use Rattle.chyp_verdicts.specs.Judged.{IsJudged, no_sentence, refused, accepted, by_steps}
-use Rattle.chyp_verdicts.specs.Steps.{AreGood, AreUsable, IsUsable, IsVerdictOnSteps, Move, StopsWith, is_by_simp, is_open, judged, moves_of, needs_simp, not_built, proved, refusal_at, rules_of, stops, unfinished}
-use Rattle.chyp_verdicts.proofs.Cited.{or-false, reasons-usable}
+use Rattle.chyp_verdicts.specs.Steps.{AreGood, AreUsable, IsVerdictOnSteps, Move, StopsWith, is_open, moves_of, proved, refusal_at, rules_of, stops, unfinished}
+use Rattle.chyp_verdicts.proofs.Cited.{reasons-usable}
 use Rattle.chyp_verdicts.proofs.Judgements.{some-judgement}
 use Rattle.chyp_verdicts.proofs.Known.{Known, TestsAreDecided}
 
@@ -147,6 +148,8 @@ one-later n Good v e = absurd cc
 one-later n Differs v e = (_, refl)
 one-later n (NoRewrite k) v e = (_, refl)
 one-later n (TooWide k) v e = (_, refl)
+one-later n SimpDiffers v e = (_, refl)
+one-later n SimpLimit v e = (_, refl)
 
 stops-later : (move : Move) (moves : List Move) → IsJudgement move.reason move.from move.to Good → Stop moves → Stop (move ∷ moves)
 stops-later move moves h s =
@@ -164,24 +167,21 @@ stops-later move moves h s =
       };
     }
 
--- a step by a usable rule, or by none, can be judged
-pub usable-judged : (reason : Reason) → is_by_simp reason ≡ false → All IsUsable (rules_of reason) → CanBeJudged reason
-usable-judged by_laws s can = tt
-usable-judged (by_rule e) s can = can 0 e (omega arith)
-usable-judged (by_simp rules) s can = absurd (false≢true (sym s))
+-- a step by usable rules, or by none, can be judged
+pub usable-judged : (reason : Reason) → All IsUsable (rules_of reason) → CanBeJudged reason
+usable-judged by_laws can = tt
+usable-judged (by_rule e) can = can 0 e (omega arith)
+usable-judged (by_simp rules) can = can
 
 -- steps that can be judged are all good, or they stop
-good-or-stop : Known → (moves : List Move) → needs_simp moves ≡ false → All IsFit moves → AreGood moves (length moves) ⊎ Stop moves
-good-or-stop known [] s fit = inl (λ j m h e. absurd (omega arith))
-good-or-stop known (move ∷ moves) s fit =
-    go (good-or-stop known moves parts.1 (λ k d h. fit (suc k) d (omega arith)))
-    (some-judgement known.laws known.contexts move.reason move.from move.to (usable-judged move.reason parts.0 here.rules) here.equation)
+good-or-stop : Known → (moves : List Move) → All IsFit moves → AreGood moves (length moves) ⊎ Stop moves
+good-or-stop known [] fit = inl (λ j m h e. absurd (omega arith))
+good-or-stop known (move ∷ moves) fit =
+    go (good-or-stop known moves (λ k d h. fit (suc k) d (omega arith)))
+    (some-judgement known.laws known.contexts move.reason move.from move.to (usable-judged move.reason here.rules) here.equation)
   where
     here : IsFit move
     here = fit 0 move (omega arith)
-
-    parts : (is_by_simp move.reason ≡ false) × (needs_simp moves ≡ false)
-    parts = or-false (is_by_simp move.reason) (needs_simp moves) s
 
     go : AreGood moves (length moves) ⊎ Stop moves → (j : Judged) × IsJudgement move.reason move.from move.to j → AreGood (move ∷ moves) (suc (length moves)) ⊎ Stop (move ∷ moves)
     go (inl all) (Good, h) = inl (good-cons move moves (length moves) h all)
@@ -189,6 +189,8 @@ good-or-stop known (move ∷ moves) s fit =
     go rest (Differs, h) = inr (record { verdict = _; is = stops-first move moves Differs _ h refl })
     go rest (NoRewrite k, h) = inr (record { verdict = _; is = stops-first move moves (NoRewrite k) _ h refl })
     go rest (TooWide k, h) = inr (record { verdict = _; is = stops-first move moves (TooWide k) _ h refl })
+    go rest (SimpDiffers, h) = inr (record { verdict = _; is = stops-first move moves SimpDiffers _ h refl })
+    go rest (SimpLimit, h) = inr (record { verdict = _; is = stops-first move moves SimpLimit _ h refl })
 
 moves-fit : (terms : List Morphism) (reasons : List Reason) → AreTypedAlike terms → AreUsable reasons → All IsFit (moves_of terms reasons)
 moves-fit [] reasons alike rules = All-nil _
@@ -200,17 +202,13 @@ moves-fit (t ∷ u ∷ ts) (r ∷ rs) alike rules =
 
 -- a rewrite that nothing refuses has a verdict on its steps
 some-steps : Known → (terms : List Morphism) (reasons : List Reason) (hole : Bool) → AreTypedAlike terms → AreUsable reasons → SomeVerdict (IsVerdictOnSteps terms reasons hole)
-some-steps known terms reasons hole alike can = simp (needs_simp (moves_of terms reasons)) refl
+some-steps known terms reasons hole alike can = table (good-or-stop known (moves_of terms reasons) (moves-fit terms reasons alike can)) (is_open reasons hole) refl
   where
-    table : needs_simp (moves_of terms reasons) ≡ false → AreGood (moves_of terms reasons) (length (moves_of terms reasons)) ⊎ Stop (moves_of terms reasons) → (b : Bool)
-        → is_open reasons hole ≡ b → SomeVerdict (IsVerdictOnSteps terms reasons hole)
-    table n (inr f) b e = record { verdict = f.verdict; gets = judged n (stops f.is) }
-    table n (inl all) true e = record { verdict = Unfinished; gets = judged n (unfinished all e) }
-    table n (inl all) false e = record { verdict = Proved; gets = judged n (proved all e) }
-
-    simp : (b : Bool) → needs_simp (moves_of terms reasons) ≡ b → SomeVerdict (IsVerdictOnSteps terms reasons hole)
-    simp true n = record { verdict = NotBuilt; gets = not_built n }
-    simp false n = table n (good-or-stop known (moves_of terms reasons) n (moves-fit terms reasons alike can)) (is_open reasons hole) refl
+    table : AreGood (moves_of terms reasons) (length (moves_of terms reasons)) ⊎ Stop (moves_of terms reasons) → (b : Bool) → is_open reasons hole ≡ b
+        → SomeVerdict (IsVerdictOnSteps terms reasons hole)
+    table (inr f) b e = record { verdict = f.verdict; gets = stops f.is }
+    table (inl all) true e = record { verdict = Unfinished; gets = unfinished all e }
+    table (inl all) false e = record { verdict = Proved; gets = proved all e }
 
 -- each statement has a verdict
 pub some-verdict : Known → (s : Site) → IsSound s.scope.env → SomeVerdict (IsJudged s)

@@ -1,7 +1,7 @@
 -- What the verdicts of a text say of its rewrites.
-use Rattle.std.specs.Prelude.{◌≡◌, ℕ, ◌+◌, ◌<◌, List, [], All, Some, slice_get}
+use Rattle.std.specs.Prelude.{◌≡◌, ℕ, ◌+◌, ◌<◌, List, [], All, Some, slice_get, ◌⊎◌}
 use Rattle.chyp_base.specs.declared.verdict.Verdict.{Verdict}
-use Rattle.chyp_base.specs.declared.verdict.Verdict.TheVariants.{Proved, Differs, NoRewrite, TooWide}
+use Rattle.chyp_base.specs.declared.verdict.Verdict.TheVariants.{Proved, Differs, NoRewrite, SimpDiffers, SimpLimit, TooWide}
 use Rattle.chyp_lex.specs.declared.token.Token.{Token}
 use Rattle.chyp_syntax.specs.declared.chunk.Chunk.{Chunk}
 use Rattle.chyp_syntax.specs.Sentence.{IsSentence}
@@ -10,10 +10,15 @@ use Rattle.chyp_syntax.specs.Words.{Word}
 use Rattle.chyp_term.specs.Derivation.{Derives}
 use Rattle.chyp_term.specs.Morphism.{Morphism}
 use Rattle.chyp_term.specs.Rewriting.{RewritesInContext}
-use Rattle.chyp_term.specs.Step.{Reason, by_laws, by_rule}
+use Rattle.chyp_term.specs.Step.{Reason, by_laws, by_rule, by_simp}
 use Rattle.chyp_env.specs.Environment.{law}
 use Rattle.chyp_env.specs.Site.{Site}
-use Rattle.chyp_judge.specs.Judged.{HaveOccurrences, HavePlacements, most_placements}
+use Rattle.chyp_simp.specs.Comparing.{IsComparison}
+use Rattle.chyp_simp.specs.Run.{most_placements}
+use Rattle.chyp_simp.specs.declared.comparison.Comparison.{Comparison}
+use Rattle.chyp_simp.specs.declared.comparison.Comparison.TheVariants as compared
+use Rattle.chyp_simp.specs.declared.comparison.Comparison.TheVariants.{AtLimit, Different}
+use Rattle.chyp_judge.specs.Judged.{HaveOccurrences, HavePlacements}
 use Rattle.chyp_verdicts.specs.Judged.{moves_at}
 use Rattle.chyp_verdicts.specs.Rules.{IsRewriteOf, RestsOn}
 use Rattle.chyp_verdicts.specs.Standing.{Means}
@@ -77,12 +82,23 @@ pub record HasManyPlacements (statements : List (List Word)) (number step placem
   pub many : most_placements < placements
   pub are : HavePlacements left from placements
 
+-- a step by `simp`, whose terms compare so by its rules
+pub record HasComparison (statements : List (List Word)) (number step : ℕ) (comparison : Comparison) : Type 0 where
+  pub rules : List (Morphism × Morphism)
+  pub from : Morphism
+  pub to : Morphism
+  pub is_step : HasStep statements number step (by_simp rules) from to
+  pub is : IsComparison rules from to comparison
+
 -- what the verdict says of the statement of this number
 abbrev pub Explains : List (List Word) → ℕ → Verdict → Type 0
 Explains statements number Proved = HasProof statements number
 Explains statements number (Differs step) = HasNoDerivation statements number step
 Explains statements number (NoRewrite step occurrences) = HasNoContext statements number step occurrences
-Explains statements number (TooWide step placements) = HasManyPlacements statements number step placements
+Explains statements number (TooWide step placements) =
+    HasManyPlacements statements number step placements ⊎ HasComparison statements number step (compared.TooWide placements)
+Explains statements number (SimpDiffers step) = HasComparison statements number step Different
+Explains statements number (SimpLimit step) = HasComparison statements number step AtLimit
 Explains statements number _ = Unit {0}
 
 -- what the verdicts say of these statements, one by one, is so

@@ -1,16 +1,14 @@
 -- The verdict on a rewrite that nothing refuses, by its steps.
 use Rattle.std.specs.Prelude.{◌≡◌, ℕ, ◌+◌, ◌<◌, Bool, true, false, IsTrue, List, [], ◌∷◌, length, Option, None, Some, slice_get, All}
-use Rattle.std.specs.List.{list_any}
 use Rattle.chyp_base.specs.declared.verdict.Verdict.{Verdict}
 use Rattle.chyp_base.specs.declared.verdict.Verdict.TheVariants as verdict
-use Rattle.chyp_base.specs.declared.verdict.Verdict.TheVariants.{NotBuilt, Unfinished, Proved}
-use Rattle.chyp_term.specs.Derivation.{IsEquation}
-use Rattle.chyp_term.specs.Limits.{IsWithinLimits}
+use Rattle.chyp_base.specs.declared.verdict.Verdict.TheVariants.{Unfinished, Proved}
 use Rattle.chyp_term.specs.Morphism.{Morphism}
 use Rattle.chyp_term.specs.Step.{Reason, by_laws, by_rule, by_simp}
+use Rattle.chyp_simp.specs.Laws.{IsUsable}
 use Rattle.chyp_judge.specs.Judged.{IsJudgement}
 use Rattle.chyp_judge.specs.declared.judged.Judged.{Judged}
-use Rattle.chyp_judge.specs.declared.judged.Judged.TheVariants.{Differs, Good, NoRewrite, TooWide}
+use Rattle.chyp_judge.specs.declared.judged.Judged.TheVariants.{Differs, Good, NoRewrite, SimpDiffers, SimpLimit, TooWide}
 
 -- a step, from a term to its goal
 pub record Move : Type 0 where
@@ -31,21 +29,14 @@ rules_of by_laws = []
 rules_of (by_rule rule) = rule ∷ []
 rules_of (by_simp rules) = rules
 
--- the step is by `simp`
-abbrev pub is_by_simp : Reason → Bool
-is_by_simp (by_simp rules) = true
-is_by_simp _ = false
-
--- some step that leads to a term is
-abbrev pub needs_simp : List Move → Bool
-needs_simp moves = list_any (λ move. is_by_simp move.reason) moves
-
 -- the verdict of a rewrite whose step of this number is judged so; a good step gives none
 abbrev pub refusal_at : ℕ → Judged → Option Verdict
 refusal_at step Good = None
 refusal_at step Differs = Some (verdict.Differs step)
 refusal_at step (NoRewrite occurrences) = Some (verdict.NoRewrite step occurrences)
 refusal_at step (TooWide placements) = Some (verdict.TooWide step placements)
+refusal_at step SimpDiffers = Some (verdict.SimpDiffers step)
+refusal_at step SimpLimit = Some (verdict.SimpLimit step)
 
 -- the first k steps are good
 abbrev pub AreGood : List Move → ℕ → Type 0
@@ -73,17 +64,10 @@ abbrev pub is_open : List Reason → Bool → Bool
 is_open [] hole = true
 is_open (reason ∷ reasons) hole = hole
 
--- The verdict on a rewrite with these terms, reasons of its steps, and with a hole or without. (Where a step leads to a term by
--- `simp` it isn't built yet, whatever the other steps are.)
-pub data IsVerdictOnSteps (terms : List Morphism) (reasons : List Reason) (hole : Bool) : Verdict → Type 0 where
-  not_built : IsTrue (needs_simp (moves_of terms reasons)) → IsVerdictOnSteps terms reasons hole NotBuilt
-  judged : {verdict : Verdict} → needs_simp (moves_of terms reasons) ≡ false
-      → IsVerdictOnMoves (moves_of terms reasons) (is_open reasons hole) verdict → IsVerdictOnSteps terms reasons hole verdict
+-- the verdict on a rewrite with these terms, reasons of its steps, and with a hole or without
+abbrev pub IsVerdictOnSteps : List Morphism → List Reason → Bool → Verdict → Type 0
+IsVerdictOnSteps terms reasons hole verdict = IsVerdictOnMoves (moves_of terms reasons) (is_open reasons hole) verdict
 
--- a step can rest on the equation: both terms are typed, have one type, and are within the limits
-abbrev pub IsUsable : Morphism × Morphism → Type 0
-IsUsable rule = IsEquation rule.0 rule.1 × IsWithinLimits rule.0 × IsWithinLimits rule.1
-
--- so can steps rest on those that they name
+-- steps can rest on the equations that they name: both sides of each are typed, have one type, and are within the limits
 abbrev pub AreUsable : List Reason → Type 0
 AreUsable reasons = All (λ reason. All IsUsable (rules_of reason)) reasons

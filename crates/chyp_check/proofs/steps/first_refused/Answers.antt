@@ -2,7 +2,7 @@ use Rattle.std.proofs.Common.{◌≡◌, ◌+◌, ◌-◌, suc, Some, slice_get,
 use Rattle.chyp_term.specs.Step.{reason_of, reasons_of}
 use Rattle.chyp_judge.specs.Judged.{IsJudgement}
 use Rattle.chyp_verdicts.specs.Steps.{AreGood, moves_of, refusal_at}
-use Rattle.chyp_check.proofs.StepLists.{good-more, item-at, judged-at, move-at, no-refusal, passes-none, reason-at}
+use Rattle.chyp_check.proofs.StepLists.{good-more, item-at, judged-at, move-at, no-refusal, reason-at}
 use Rattle.chyp_check.proofs.steps.first_refused.Goals as goal
 
 pub judged-requires-clause-step : goal.judged-requires-clause-step
@@ -18,8 +18,7 @@ judged-requires-clause-step c =
     let step = item-at steps (at - 1) c.index-steps-at.result (omega (arith, c.loop-at-test.true, c.loop-at.auto.at)) c.index-steps-at.is in
     let next : suc (at - 1) ≡ at = omega (arith, c.loop-at.auto.at) in
     let reason = reason-at steps (at - 1) c.index-steps-at.result step in
-    let move = move-at terms (reasons_of steps) (at - 1) (reason_of c.index-steps-at.result) s t reason from (subst (λ n. slice_get terms n ≡ Some t) (sym next) to) in
-    judged-at (reasons_of steps) (at - 1) (reason_of c.index-steps-at.result) c.requires.usable reason (passes-none (moves_of terms (reasons_of steps)) (at - 1) _ c.requires.plain move)
+    judged-at (reasons_of steps) (at - 1) (reason_of c.index-steps-at.result) c.requires.usable reason
 
 pub returns-in-Some-clause-some : goal.returns-in-Some-clause-some
 returns-in-Some-clause-some c =

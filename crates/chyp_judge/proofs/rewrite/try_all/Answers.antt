@@ -36,6 +36,7 @@ loop-at-preserved c =
     record {
       given = next-given b c.loop-at.tried m given c.in-Some.at.now next c.next.follows.lender-at-none (c.next.follows.holds-at-none ∙ ap (after m) c.in-Some.is);
       none = none-more b c.loop-at.tried m given c.in-Some.at.now next c.args.rewrite.now c.requires.pattern c.requires.graph c.loop-at.invariant.none not;
+      known = c.in_ok-known.ensures;
       scratch = c.in_ok-reaches.ensures.same ∙ c.loop-at.invariant.scratch;
     }
 

@@ -1,0 +1,11 @@
+pub mod Extending
+pub mod Lexing
+pub mod Spelling
+pub mod Fronts
+pub mod Printed
+pub mod Meaning
+pub mod Reading
+pub mod Back
+pub mod Bound
+pub mod Commas
+pub mod Firsts

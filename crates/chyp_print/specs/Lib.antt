@@ -1,0 +1,5 @@
+pub mod Names
+pub mod Printing
+pub mod Reading
+pub mod Environments
+pub mod FirstNames
