@@ -211,7 +211,7 @@ some-sense typed s env v name e (no_sentence f) = bad-sense s v (λ p. absurd cc
 some-sense typed s env v name e (refused {tree} t r) = bad-sense s v (refused-bad s tree v r)
 some-sense typed s env v name e (by_steps {name = n} {first} {steps} t p x) =
     let tree = rewrite n first steps in
-    steps-sense s n first steps v t p (typed s env tree p) (steps-bad (terms_of s tree) (steps_at s tree) (has_hole tree) v x)
+    steps-sense s n first steps v t p (typed s env tree p) (steps-bad (terms_of s tree) (steps_at s.scope tree) (has_hole tree) v x)
 some-sense typed s env v name e (accepted {tree} t p n) = go tree t p n
   where
     go : (tree : StatementTree) → IsSentence s.scope.words tree → Passes s tree → is_rewrite tree ≡ false → SomeSense s Accepted
