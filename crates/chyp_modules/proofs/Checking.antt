@@ -198,7 +198,7 @@ abbrev NoNewImport : Library → Names → List (List Word) → Type 0
 NoNewImport library names ss = (number : ℕ) (tokens : List Word) (other whole : List ℕ) → slice_get ss number ≡ Some tokens → Imports tokens other
     → library other ≡ Some whole → Contains names other
 
-new-import : Known → (library : Library) (names : Names) (text : List ℕ) (ss : List (List Word)) → NewImport library names ss ⊎ NoNewImport library names ss
+new-import : Known → (library : Library) (names : Names) (ss : List (List Word)) → NewImport library names ss ⊎ NoNewImport library names ss
 new-import known library names [] = inr (λ k tokens other whole e i t. absurd cc)
 new-import known library names (s ∷ ss) = go (new-import known library names ss) (import-or-not known s)
   where
