@@ -14,7 +14,7 @@ use std::alloc::Global;
 use std::test::Fail;
 
 /// Whether both terms are typed, and have one type.
-fn have_one_type(alloc: Global, from: &Term, to: &Term) -> bool
+pub(crate) fn have_one_type(alloc: Global, from: &Term, to: &Term) -> bool
     ensures { IsTrue result → IsEquation (morphism_of from.now) (morphism_of to.now) }
 {
     match (shape_of(alloc, from), shape_of(alloc, to)) {
@@ -102,6 +102,28 @@ fn steps_by_a_rule_are_judged(rt: HostRuntime) -> Result<(), Fail> {
     check(alloc, ["f f ; f ;", "g f ;", "f f ;", "g"], Judged::Good)?;
     check(alloc, ["f f ; f ;", "f g ;", "f f ;", "g"], Judged::Good)?;
     check(alloc, ["f f ; f ;", "g g ;", "f f ;", "g"], two)
+}
+
+#[test]
+fn occurrences_that_leave_a_difference_are_passed_over(rt: HostRuntime) -> Result<(), Fail> {
+    let alloc = rt.alloc();
+    let three = Judged::NoRewrite { occurrences: 3 };
+    let last = ["f f ; f ; f ;", "f f ; g ;", "f f ;", "g"];
+    check(alloc, last, Judged::Good)?;
+    check(
+        alloc,
+        ["f f ; f ; f ;", "f g ; f ;", "f f ;", "g"],
+        Judged::Good,
+    )?;
+    check(alloc, ["f f ; f ; f ;", "f h ; f ;", "f f ;", "g"], three)?;
+    check(alloc, ["f f * f *", "f f * g *", "f", "g"], Judged::Good)?;
+    check(alloc, ["f f * f *", "f g * h *", "f", "g"], three)?;
+    check(
+        alloc,
+        ["id id * id *", "id id * f *", "id", "f"],
+        Judged::Good,
+    )?;
+    check(alloc, ["id id * id *", "g f * f *", "id", "f"], three)
 }
 
 #[test]
