@@ -1,6 +1,7 @@
 // Terms that are read back from graphs.
 use crate::words::{graph, graph_of, permutation, told};
 use chyp_extractor::{Measures, extract, measure};
+use chyp_graph::Graph;
 use chyp_term::{Term, depth, gens, size};
 use std::alloc::Global;
 use std::test::Fail;
@@ -12,6 +13,18 @@ fn measures_of(term: &Term) -> Measures {
         depth: depth(term),
         gens: gens(term),
     }
+}
+
+/// Fails unless the term that is read back from the graph is what these words tell, and is measured so.
+fn check(alloc: Global, graph: &Graph, back: &str) -> Result<(), Fail> {
+    let term = extract(alloc, graph)?;
+    if told(alloc, &term)?.as_str() != back {
+        return Err(Fail::new("another term"));
+    }
+    if measure(alloc, graph)? != measures_of(&term) {
+        return Err(Fail::new("other measures"));
+    }
+    Ok(())
 }
 
 #[test]
@@ -38,10 +51,7 @@ fn terms_are_read_back(rt: HostRuntime) -> Result<(), Fail> {
         ("f f ; f ; f ;", "((f ; f) ; (f ; f))"),
         ("f f ; g *", "((f * g) ; (f * [0]))"),
     ] {
-        let graph = graph(alloc, words)?;
-        let term = extract(alloc, &graph)?;
-        assert_eq!(rt; told(alloc, &term)?.as_str(), back, "{words}");
-        assert_eq!(rt; measure(alloc, &graph)?, measures_of(&term), "{words}");
+        check(alloc, &graph(alloc, words)?, back)?;
     }
     Ok(())
 }

@@ -1,6 +1,7 @@
 // Terms that are printed, and the texts read back.
 use crate::reading::{bound, read};
 use crate::words::{graph, permutation, term, told};
+use chyp_env::Env;
 use chyp_extractor::extract;
 use chyp_print::{OwnNames, print};
 use chyp_term::Term;
@@ -14,6 +15,25 @@ fn printed(alloc: Global, term: &Term) -> Result<String, Fail> {
         Ok(text) => Ok(text),
         Err(_) => Err(Fail::new("no text")),
     }
+}
+
+/// Fails unless the term has this text, and the text is read as what these words tell.
+fn check(alloc: Global, env: &Env, term: &Term, wanted: (&str, &str)) -> Result<(), Fail> {
+    let text = printed(alloc, term)?;
+    if text.as_str() != wanted.0 {
+        return Err(Fail::new("another text"));
+    }
+    let back = read(alloc, env, &text)?;
+    if back.as_str() != wanted.1 {
+        return Err(Fail::new("another term"));
+    }
+    Ok(())
+}
+
+/// Fails unless the term has this text, and the text is read as the term.
+fn check_itself(alloc: Global, env: &Env, term: &Term, text: &str) -> Result<(), Fail> {
+    let back = told(alloc, term)?;
+    check(alloc, env, term, (text, back.as_str()))
 }
 
 /// The generators of the words.
@@ -56,9 +76,7 @@ fn printed_terms_are_read_back(rt: HostRuntime) -> Result<(), Fail> {
         ("f id *", "f * id", "(f * [0])"),
         ("s id0 ; t *", "(s ; id0) * t", "((s ; []) * t)"),
     ] {
-        let text_now = printed(alloc, &term(alloc, words)?)?;
-        assert_eq!(rt; text_now.as_str(), text, "{words}");
-        assert_eq!(rt; read(alloc, &env, text)?.as_str(), back, "{words}");
+        check(alloc, &env, &term(alloc, words)?, (text, back))?;
     }
     Ok(())
 }
@@ -78,10 +96,7 @@ fn extracted_terms_are_read_back_themselves(rt: HostRuntime) -> Result<(), Fail>
         ("turn f g * f * ; m g * ;", "sw[1,2,0] ; f * g * f ; m * g"),
     ] {
         let term = extract(alloc, &graph(alloc, words)?)?;
-        let text_now = printed(alloc, &term)?;
-        assert_eq!(rt; text_now.as_str(), text, "{words}");
-        let back = read(alloc, &env, text)?;
-        assert_eq!(rt; back.as_str(), told(alloc, &term)?.as_str(), "{words}");
+        check_itself(alloc, &env, &term, text)?;
     }
     Ok(())
 }
@@ -96,28 +111,31 @@ fn repeated(alloc: Global, text: &str, times: u32) -> Result<String, Fail> {
 }
 
 #[test]
-fn deep_terms_and_long_names_are_read_back(rt: HostRuntime) -> Result<(), Fail> {
+fn deep_terms_are_read_back(rt: HostRuntime) -> Result<(), Fail> {
     let alloc = rt.alloc();
     // 255 joins in one another, each other one in parentheses.
     let tail = repeated(alloc, " s ; t *", 127)?;
-    let words = format!(in alloc; "s{tail} s ;")?;
-    let env = bound(alloc, &GENERATORS)?;
-    let term_now = term(alloc, &words)?;
-    let text = printed(alloc, &term_now)?;
     let open = repeated(alloc, "(", 127)?;
     let rest = repeated(alloc, " ; s) * t", 127)?;
-    assert_eq!(rt; text, format!(in alloc; "{open}s{rest} ; s")?);
-    assert_eq!(rt; read(alloc, &env, &text)?, told(alloc, &term_now)?);
-    // A name of 100,000 bytes.
+    let words = format!(in alloc; "s{tail} s ;")?;
+    let text = format!(in alloc; "{open}s{rest} ; s")?;
+    check_itself(
+        alloc,
+        &bound(alloc, &GENERATORS)?,
+        &term(alloc, &words)?,
+        &text,
+    )
+}
+
+#[test]
+fn long_names_are_read_back(rt: HostRuntime) -> Result<(), Fail> {
+    let alloc = rt.alloc();
+    // 100,000 bytes.
     let name = repeated(alloc, "long", 25_000)?;
     let env = bound(alloc, &[(name.as_str(), 1, 1)])?;
-    let text = printed(alloc, &term(alloc, &format!(in alloc; "{name} {name} ;")?)?)?;
-    assert_eq!(rt; text, format!(in alloc; "{name} ; {name}")?);
-    assert_eq!(rt;
-        read(alloc, &env, &text)?,
-        format!(in alloc; "({name} ; {name})")?
-    );
-    Ok(())
+    let words = format!(in alloc; "{name} {name} ;")?;
+    let text = format!(in alloc; "{name} ; {name}")?;
+    check_itself(alloc, &env, &term(alloc, &words)?, &text)
 }
 
 #[test]

@@ -3,8 +3,10 @@ ghost use Rattle.std.specs.Prelude.{◌≡◌, ◌≤◌, IfOk, IsTrue, length};
 ghost use Rattle.chyp_lex.specs.Tokens.{AreSpans, AreTokens};
 ghost use Rattle.chyp_syntax.specs.Term.{tree_of};
 ghost use Rattle.chyp_term.specs.Limits.{IsWithinLimits};
+ghost use Rattle.chyp_env.specs.Entry.{sense_of};
 ghost use Rattle.chyp_env.specs.Expansion.{expansion_in};
 ghost use Rattle.chyp_env.specs.Scope.{meaning_at};
+ghost use Rattle.chyp_env.specs.Sound.{IsSoundSense};
 
 use crate::words::{told, wires};
 use chyp_base::{MAX_TEXT_LEN, Name};
@@ -15,35 +17,56 @@ use chyp_term::{MOST_DEPTH, MOST_GENERATORS, MOST_SIZE, Shape};
 use std::alloc::Global;
 use std::test::Fail;
 
-/// Binds a generator by a name.
-pub(crate) fn add(
-    alloc: Global,
-    env: &mut Env,
-    name: &str,
-    generator: (&str, usize, usize),
-) -> Result<(), Fail> {
-    let (own, from, to) = generator;
-    if from > 64 || to > 64 || env.lookup(name.as_bytes()).is_some() {
-        return Err(Fail::new("a wide generator, or one that is there"));
-    }
+/// A type of so many plain wires, at most 64 on each side.
+fn shape(alloc: Global, from: usize, to: usize) -> Result<Shape, Fail>
+    ensures dom { IfOk result (λ shape. length shape.dom ≤ 64) }
+    ensures cod { IfOk result (λ shape. length shape.cod ≤ 64) }
+{
     let dom = wires(alloc, from)?;
     let cod = wires(alloc, to)?;
-    let meaning = Meaning::Generator(Name::new(alloc, own)?, Shape { dom, cod });
+    if dom.as_slice().len() > 64 || cod.as_slice().len() > 64 {
+        return Err(Fail::new("a wide generator"));
+    }
+    Ok(Shape { dom, cod })
+}
+
+/// The entry of a generator by its own name.
+fn entry(alloc: Global, name: &str, shape: Shape) -> Result<Entry, Fail>
+    requires dom { length shape.dom ≤ 64 }
+    requires cod { length shape.cod ≤ 64 }
+    ensures name { IfOk result (λ entry. entry.name ≡ name.now) }
+    ensures sound { IfOk result (λ entry. IsSoundSense (sense_of entry.meaning)) }
+{
     let module = Name::new(alloc, "")?;
-    let origin = Origin { module, index: 0 };
-    let name = Name::new(alloc, name)?;
-    Ok(env.insert(Entry {
-        name,
-        origin,
-        meaning,
-    })?)
+    Ok(Entry {
+        name: Name::new(alloc, name)?,
+        origin: Origin { module, index: 0 },
+        meaning: Meaning::Generator(Name::new(alloc, name)?, shape),
+    })
+}
+
+/// Binds a generator by its own name.
+fn add(alloc: Global, env: &mut Env, name: &str, shape: Shape) -> Result<(), Fail>
+    requires dom { length shape.dom ≤ 64 }
+    requires cod { length shape.cod ≤ 64 }
+{
+    let entry = entry(alloc, name, shape)?;
+    if env.lookup(name.as_bytes()).is_some() {
+        return Err(Fail::new("a name that is there"));
+    }
+    Ok(env.insert(entry)?)
 }
 
 /// The environment in which each of these generators is bound by its own name.
 pub(crate) fn bound(alloc: Global, generators: &[(&str, usize, usize)]) -> Result<Env, Fail> {
     let mut env = Env::new(alloc);
     for generator in generators {
-        add(alloc, &mut env, generator.0, *generator)?;
+        add(
+            alloc,
+            &mut env,
+            generator.0,
+            shape(alloc, generator.1, generator.2)?,
+        )?;
     }
     Ok(env)
 }
