@@ -52,9 +52,7 @@ pub(crate) fn expand(
             Some(places) => written(alloc, plain, places.as_slice()),
             None => plain.crossing(),
         },
-        TermAst::Chain { parts, .. } => {
-            row(alloc, plain, Join::Then, parts.as_slice(), scope)
-        }
+        TermAst::Chain { parts, .. } => { row(alloc, plain, Join::Then, parts.as_slice(), scope) }
         TermAst::Beside(parts) => row(alloc, plain, Join::Beside, parts.as_slice(), scope),
     }
 }

@@ -187,11 +187,7 @@ fn plain_shape(alloc: Global, plain: &PlainWires, count: usize) -> Result<Shape,
 }
 
 // The type of the term that the name of this token stands for.
-fn shape_of_name(
-    alloc: Global,
-    token: u32,
-    scope: &Scope<'_>,
-) -> Result<Shape, NoMemory>
+fn shape_of_name(alloc: Global, token: u32, scope: &Scope<'_>) -> Result<Shape, NoMemory>
     ensures { IfOk result (λ shape. IsShape shape (meaning_at scope.now token)) }
 {
     match scope.entry_at(token) {

@@ -103,12 +103,7 @@ fn typed_terms(
 }
 
 // What a statement means that names don't refuse and that is within the limits.
-fn made(
-    alloc: Global,
-    module: &Name,
-    ast: &Ast,
-    scope: &Scope<'_>,
-) -> Result<Body, ElabError>
+fn made(alloc: Global, module: &Name, ast: &Ast, scope: &Scope<'_>) -> Result<Body, ElabError>
     requires sentence { IsSentence scope.now.words (statement_of ast.now) }
     requires known { first_fault scope.now (statement_of ast.now) ≡ None }
     requires small { AreWithinLimits (statement_of ast.now) (terms_in [] scope.now (statement_of ast.now)) }

@@ -75,11 +75,7 @@ fn sum_of_two(left: &TermAst, right: &TermAst, scope: &Scope<'_>) -> Option<u64>
 }
 
 // The size of the terms of a rewrite together, None where they don't fit.
-fn sum_of_rewrite(
-    first: &TermAst,
-    steps: &[StepAst],
-    scope: &Scope<'_>,
-) -> Option<u64>
+fn sum_of_rewrite(first: &TermAst, steps: &[StepAst], scope: &Scope<'_>) -> Option<u64>
     ensures { IsSum 0
         (expansion_at scope.now (tree_of first.now) ∷ goal_terms scope.now steps.now) result }
 {

@@ -174,11 +174,7 @@ fn unproved_in_steps(steps: &[StepAst], scope: &Scope<'_>) -> Option<u32>
 }
 
 // What is wrong with the first name of two terms that is at fault.
-fn fault_in_two(
-    left: &TermAst,
-    right: &TermAst,
-    scope: &Scope<'_>,
-) -> Option<Verdict>
+fn fault_in_two(left: &TermAst, right: &TermAst, scope: &Scope<'_>) -> Option<Verdict>
     ensures { result ≡ first_fault_among scope.now (uses_in (tree_of left.now) ++ uses_in (tree_of right.now)) }
 {
     let fault = fault_in_tree(left, scope);
@@ -189,11 +185,7 @@ fn fault_in_two(
 }
 
 // What is wrong with the first name of a rewrite that is at fault.
-fn fault_in_rewrite(
-    first: &TermAst,
-    steps: &[StepAst],
-    scope: &Scope<'_>,
-) -> Option<Verdict>
+fn fault_in_rewrite(first: &TermAst, steps: &[StepAst], scope: &Scope<'_>) -> Option<Verdict>
     ensures { result ≡ first_fault_among scope.now
         (uses_in (tree_of first.now) ++ flat_map uses_in_step (map step_of steps.now)) }
 {

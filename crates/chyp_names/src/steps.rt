@@ -38,11 +38,7 @@ fn equation(rule: SignedAst, scope: &Scope<'_>) -> Result<Equation, NoMemory>
 }
 
 // The equations of some rules.
-fn equations(
-    alloc: Global,
-    rules: &[SignedAst],
-    scope: &Scope<'_>,
-) -> Result<Equations, NoMemory>
+fn equations(alloc: Global, rules: &[SignedAst], scope: &Scope<'_>) -> Result<Equations, NoMemory>
     requires { All (λ rule. IsLawAt scope.now rule.name) rules.now }
     ensures { IfOk result (λ equations. equations_of equations ≡ map (equation_at scope.now) rules.now) }
 {
@@ -54,29 +50,19 @@ fn equations(
 }
 
 // What a step rests on.
-fn step(
-    alloc: Global,
-    reason: &ReasonAst,
-    scope: &Scope<'_>,
-) -> Result<Step, NoMemory>
+fn step(alloc: Global, reason: &ReasonAst, scope: &Scope<'_>) -> Result<Step, NoMemory>
     requires { RestsOnLaws scope.now reason.now }
     ensures { IfOk result (λ step. reason_of step ≡ reason_at scope.now reason.now) }
 {
     match reason {
         ReasonAst::Plain => Ok(Step::Refl),
         ReasonAst::Rule(rule) => Ok(Step::ByRule(equation(*rule, scope)?)),
-        ReasonAst::Simp(rules) => {
-            Ok(Step::Simp(equations(alloc, rules.as_slice(), scope)?))
-        }
+        ReasonAst::Simp(rules) => { Ok(Step::Simp(equations(alloc, rules.as_slice(), scope)?)) }
     }
 }
 
 // What some steps rest on.
-fn step_list(
-    alloc: Global,
-    steps: &[StepAst],
-    scope: &Scope<'_>,
-) -> Result<StepList, NoMemory>
+fn step_list(alloc: Global, steps: &[StepAst], scope: &Scope<'_>) -> Result<StepList, NoMemory>
     requires { All (λ step. RestsOnLaws scope.now step.reason) steps.now }
     ensures { IfOk result (λ list. reasons_of list
         ≡ map (λ step. reason_at scope.now step.reason) (map step_of steps.now)) }
@@ -90,11 +76,7 @@ fn step_list(
 
 /// What the steps of a statement rest on, that of a hole last. Its names are in order, and all that are
 /// behind a `by` are proved.
-pub(crate) fn steps(
-    alloc: Global,
-    ast: &Ast,
-    scope: &Scope<'_>,
-) -> Result<StepList, NoMemory>
+pub(crate) fn steps(alloc: Global, ast: &Ast, scope: &Scope<'_>) -> Result<StepList, NoMemory>
     requires known { first_fault scope.now (statement_of ast.now) ≡ None }
     requires proved { first_unproved scope.now (statement_of ast.now) ≡ None }
     ensures { IfOk result (λ list. reasons_of list ≡ steps_at scope.now (statement_of ast.now)) }

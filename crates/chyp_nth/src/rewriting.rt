@@ -15,10 +15,10 @@ use crate::redex::Redex;
 use chyp_base::NoMemory;
 use chyp_extractor::{Measures, extract, measure};
 use chyp_graph::Graph;
-use chyp_simp::MOST_PLACEMENTS;
 use chyp_match::{Listed, Occurrences, occurrences_are_few, placements};
 use chyp_pattern::Pattern;
 use chyp_replace::replace;
+use chyp_simp::MOST_PLACEMENTS;
 use chyp_term::{Equation, MOST_DEPTH, MOST_GENERATORS, MOST_SIZE, Term};
 use std::alloc::Global;
 

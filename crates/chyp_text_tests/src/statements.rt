@@ -62,8 +62,7 @@ fn meant(alloc: Global, env: &Env, chunk: &ChunkView<'_>) -> Result<Body, Fail>
 }
 
 // The verdict that refuses the statement.
-fn refusal(alloc: Global, env: &Env, chunk: &ChunkView<'_>) -> Result<Verdict, Fail>
-{
+fn refusal(alloc: Global, env: &Env, chunk: &ChunkView<'_>) -> Result<Verdict, Fail> {
     let main = Name::new(alloc, "")?;
     let ast = tree_of(alloc, chunk)?;
     let scope = Scope::new(chunk, env);
@@ -93,7 +92,15 @@ fn accept(alloc: Global, env: &mut Env, text: &[u8]) -> Result<(), Fail>
     let body = accepted(alloc, env, &chunk)?;
     let main = Name::new(alloc, "")?;
     let import = ImportState::NotImport;
-    bind(env, &main, 0, &chunk, &import, Some(&body), &Verdict::Accepted)?;
+    bind(
+        env,
+        &main,
+        0,
+        &chunk,
+        &import,
+        Some(&body),
+        &Verdict::Accepted,
+    )?;
     Ok(())
 }
 
@@ -106,7 +113,15 @@ fn accept_owned(alloc: Global, env: &mut Env, text: &[u8]) -> Result<(), Fail>
     let body = accepted(alloc, env, &chunk)?;
     let main = Name::new(alloc, "")?;
     let import = ImportState::NotImport;
-    bind_owned(env, &main, 0, &chunk, &import, Some(body), &Verdict::Accepted)?;
+    bind_owned(
+        env,
+        &main,
+        0,
+        &chunk,
+        &import,
+        Some(body),
+        &Verdict::Accepted,
+    )?;
     Ok(())
 }
 
@@ -181,7 +196,15 @@ fn a_name_that_is_not_bound_refuses_the_statement(rt: HostRuntime) -> Result<(),
     assert_eq!(rt; verdict, Verdict::Unknown { token: 3 });
     let main = Name::new(alloc, "")?;
     let verdict = Verdict::Unknown { token: 3 };
-    bind(&mut env, &main, 0, &chunk, &ImportState::NotImport, None, &verdict)?;
+    bind(
+        &mut env,
+        &main,
+        0,
+        &chunk,
+        &ImportState::NotImport,
+        None,
+        &verdict,
+    )?;
     env.sound();
     match env.lookup(b"x") {
         Some(entry) => assert!(rt; matches!(entry.meaning, Meaning::Broken)),
