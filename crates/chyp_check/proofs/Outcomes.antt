@@ -1,5 +1,5 @@
 -- From what was elaborated to verdicts.
-use Rattle.std.proofs.Common.{◌≡◌, ℕ, ◌+◌, ◌<◌, ◌≤◌, Bool, true, List, [], ◌∷◌, length, Some, None, sum_by, refl, sym, ◌∙◌, ap, subst, arith, ◌⊎◌, inl, inr}
+use Rattle.std.proofs.Common.{◌≡◌, ℕ, ◌+◌, ◌<◌, ◌≤◌, Bool, true, List, [], ◌∷◌, length, Some, None, sum_by, Result, Ok, Err, OnErr, refl, sym, ◌∙◌, ap, subst, arith, ◌⊎◌, inl, inr}
 use Rattle.std.proofs.lemmas.List.Sums.{sum_by-cons}
 use Rattle.std.proofs.lemmas.Bool.{false≢true}
 use Rattle.std.proofs.lemmas.List.{length-map}
@@ -20,6 +20,11 @@ use Rattle.chyp_verdicts.specs.Steps.{IsVerdictOnSteps}
 use Rattle.chyp_verdicts.proofs.Follows.{goals-few}
 use Rattle.chyp_verdicts.proofs.OneBinding.{keyword_of_tree, rewrite-begins, sentence-is_rewrite}
 use Rattle.chyp_verdicts.proofs.SomeBinding.{IsBad, refused-bad, steps-bad}
+
+-- what holds anyway, holds where there is an error
+pub on_err : {T E : Type 0} (result : Result T E) (P : Type 0) → P → OnErr result P
+on_err (Ok x) P p = tt
+on_err (Err e) P p = p
 
 some_size : (t : Morphism) → 1 ≤ size_of t
 some_size (generator n a b) = omega arith

@@ -1,6 +1,7 @@
-use Rattle.std.proofs.Common.{◌+◌, ◌<◌, length, arith, rules, refl, sym, subst}
+use Rattle.std.proofs.Common.{◌+◌, ◌<◌, ◌≤◌, length, arith, rules, refl, sym, subst}
 use Rattle.chyp_syntax.proofs.Spans.{is_here, tile_within}
 use Rattle.chyp_verdicts.specs.Texts.{statements_of}
+use Rattle.chyp_check.proofs.Outcomes.{on_err}
 use Rattle.chyp_check.proofs.Texts.{AreChecked, chunks_few, none-checked, one-checked}
 use Rattle.chyp_check.proofs.each.check_each.Goals as goal
 
@@ -10,8 +11,8 @@ loop-index-init g c = record {
   ticked = omega arith;
 }
 
-pub statement-requires-clause-within : goal.statement-requires-clause-within
-statement-requires-clause-within g c =
+pub statement-view-requires-clause-within : goal.statement-view-requires-clause-within
+statement-view-requires-clause-within g c =
     (tile_within 0 (length c.args.tokens.now) c.loop-index.index _ c.args.chunks.now c.requires.chunks.tile (is_here c.args.chunks.now c.loop-index.index c.loop-index-test.true)).2
 
 pub overflow_cast-index : goal.overflow_cast-index
@@ -32,3 +33,13 @@ loop-index-preserved g c = record {
       c.in_ok-judge_and_bind.ensures.binds);
   ticked = let t = c.loop-index.invariant.ticked in let x = c.tick.ensures in omega arith;
 }
+
+pub returns-in_err-judge_and_bind-clause-no_more : goal.returns-in_err-judge_and_bind-clause-no_more
+returns-in_err-judge_and_bind-clause-no_more g c =
+    let here = c.loop-index-test.true in let t = c.loop-index.invariant.ticked in let x = c.tick.ensures in
+    on_err c.from_residual-in_err-judge_and_bind.result (c.tick.new.self ≤ c.args.steps.now + length c.args.chunks.now) (omega arith)
+
+pub returns-in_err-push-clause-no_more : goal.returns-in_err-push-clause-no_more
+returns-in_err-push-clause-no_more g c =
+    let here = c.loop-index-test.true in let t = c.loop-index.invariant.ticked in let x = c.tick.ensures in
+    on_err c.from_residual-in_err-push.result (c.tick.new.self ≤ c.args.steps.now + length c.args.chunks.now) (omega arith)
