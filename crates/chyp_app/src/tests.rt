@@ -15,7 +15,7 @@ struct Case {
     written: &'static str,
 }
 
-const CASES: [Case; 34] = [
+const CASES: [Case; 35] = [
     Case {
         text: b"",
         status: Status::Done,
