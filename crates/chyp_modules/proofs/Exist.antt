@@ -1,16 +1,13 @@
 -- Each module that reaches finitely many has an environment, and each of its statements a verdict.
-use Rattle.std.proofs.Common.{◌≡◌, ℕ, zero, suc, ◌<◌, ◌≤◌, Bool, true, false, List, [], ◌∷◌, ◌++◌, length, Option, Some, None, slice_get, ◌⊎◌, inl, inr, refl, sym, subst, arith}
-use Rattle.chyp_base.specs.declared.verdict.Verdict.{Verdict}
+use Rattle.std.proofs.Common.{◌≡◌, ℕ, zero, suc, ◌<◌, ◌≤◌, List, [], length, Option, Some, None, slice_get, ◌⊎◌, inl, inr, refl, sym, subst, arith}
 use Rattle.chyp_syntax.specs.Sentence.{IsSentence}
 use Rattle.chyp_syntax.specs.Statement.{inclusion}
 use Rattle.chyp_syntax.specs.Words.{Word}
 use Rattle.chyp_env.specs.Environment.{Binding}
 use Rattle.chyp_env.specs.Site.{Imported, nothing, absent, on_cycle, there, Site}
-use Rattle.chyp_env.specs.Sound.{IsSound}
 use Rattle.chyp_verdicts.proofs.SomeVerdict.{some-verdict}
 use Rattle.chyp_modules.specs.Library.{Library, IsModule}
 use Rattle.chyp_modules.specs.Import.{ImportsNothing, LeadsTo, Reaches, at_once}
-use Rattle.chyp_verdicts.specs.Judged.{IsJudged}
 use Rattle.chyp_modules.specs.Modules.{Makes, at_start, one_more, Stands, stands, Finds, no_import, of_none, of_circle, of_module as found}
 use Rattle.chyp_modules.specs.Laws.{ReachesOnly}
 use Rattle.chyp_verdicts.proofs.Known.{Known}

@@ -6,6 +6,7 @@ pub mod Exist
 pub mod Verdicts
 pub mod Meanings
 pub mod Generators
+pub mod Agreeing
 pub mod Checking
 pub mod Endless
 pub mod Examples
