@@ -7,6 +7,7 @@ pub mod Verdicts
 pub mod Meanings
 pub mod Generators
 pub mod Agreeing
+pub mod Explaining
 pub mod Checking
 pub mod Endless
 pub mod Examples

@@ -3,3 +3,4 @@ pub mod Import
 pub mod Modules
 pub mod Laws
 pub mod Checking
+pub mod Explained

@@ -1,10 +1,11 @@
-//! The modules of a library: their environments, their verdicts, and the rules that their laws rest on.
-//! No code cites them yet.
+//! The modules of a library: their environments, their verdicts and what these say, and the rules that
+//! their laws rest on.
 //!
 //! This is a law function, whose body only calls those of the crates below.
 #![tactic(auto)]
 
 ghost use Rattle.chyp_modules.specs.Checking.{TextsHaveOneResult};
+ghost use Rattle.chyp_modules.specs.Explained.{VerdictsAreExplained};
 ghost use Rattle.chyp_modules.specs.Laws.{GeneratorsAreBound, ModulesAreDetermined, OriginsDetermineSenses, ProvedRewritesAreDerived, TextsAreDetermined};
 
 use chyp_laws::{graphs_decide_the_laws, rewrites_are_graphs};
@@ -17,14 +18,17 @@ use chyp_theory::types_are_decided;
 
 /// Each module that is there, and reaches finitely many, has exactly one environment and one list of
 /// verdicts; so has each main text over finitely many modules; and each text gives exactly one result. A
-/// rewrite that is proved has a derivation from rules that are permitted to it. Entries of one origin
-/// have one meaning in all environments of a library, and each generator of an entry's terms has an
-/// entry of its own.
+/// rewrite that is proved has a derivation from rules that are permitted to it. What the verdicts of a
+/// module or of a main text say is so: those rules stand before the rewrite, and where a step is refused,
+/// the laws don't derive its equation, no context rewrites its term to its goal, or there are too many
+/// placements. Entries of one origin have one meaning in all environments of a library, and each
+/// generator of an entry's terms has an entry of its own.
 pub fn modules_are_determined()
     ensures modules { ModulesAreDetermined }
     ensures texts { TextsAreDetermined }
     ensures results { TextsHaveOneResult }
     ensures derived { ProvedRewritesAreDerived }
+    ensures explained { VerdictsAreExplained }
     ensures senses { OriginsDetermineSenses }
     ensures generators { GeneratorsAreBound }
 {

@@ -3,8 +3,6 @@ use Rattle.std.proofs.Common.{◌≡◌, ℕ, Bool, true, false, List, [], ◌�
 use Rattle.chyp_base.specs.declared.verdict.Verdict.{Verdict}
 use Rattle.chyp_base.specs.declared.verdict.Verdict.TheVariants.{Accepted}
 use Rattle.chyp_syntax.specs.Heading.{declared_name}
-use Rattle.chyp_syntax.specs.Sentence.{IsSentence}
-use Rattle.chyp_syntax.specs.Statement.{inclusion}
 use Rattle.chyp_env.specs.Environment.{Binding, is_bound}
 use Rattle.chyp_env.specs.Site.{Imported, there, Site}
 use Rattle.chyp_env.specs.Sound.{IsSound}

@@ -1,4 +1,4 @@
--- What the verdicts of a text say of its rewrites.
+-- What verdicts say of rewrites.
 use Rattle.std.specs.Prelude.{◌≡◌, ℕ, ◌+◌, ◌<◌, List, [], All, Some, slice_get, ◌⊎◌}
 use Rattle.chyp_base.specs.declared.verdict.Verdict.{Verdict}
 use Rattle.chyp_base.specs.declared.verdict.Verdict.TheVariants.{Proved, Differs, NoRewrite, SimpDiffers, SimpLimit, TooWide}
@@ -21,33 +21,37 @@ use Rattle.chyp_simp.specs.declared.comparison.Comparison.TheVariants.{AtLimit, 
 use Rattle.chyp_judge.specs.Judged.{HaveOccurrences, HavePlacements}
 use Rattle.chyp_verdicts.specs.Judged.{moves_at}
 use Rattle.chyp_verdicts.specs.Rules.{IsRewriteOf, RestsOn}
-use Rattle.chyp_verdicts.specs.Standing.{Means}
+use Rattle.chyp_verdicts.specs.Standing.{Means, Origin, Standing}
 use Rattle.chyp_verdicts.specs.Steps.{AreGood}
 use Rattle.chyp_verdicts.specs.Texts.{AreVerdicts, Stands, statements_of}
 
--- the equation is that of a `rule` of the text, which stands before the statement of this number and on which that one rests
-pub record IsEarlierRule (statements : List (List Word)) (number : ℕ) (equation : Morphism × Morphism) : Type 0 where
-  pub from : ℕ
-  pub before : from < number
-  pub rests : RestsOn (Stands statements) ([], number) ([], from)
-  pub means : Means (Stands statements) ([], from) (law equation.0 equation.1)
+-- which statements stand before which others
+abbrev pub Order : Type 1
+Order = Origin → Origin → Type 0
+
+-- the equation is that of a `rule` that stands before the statement and on which that one rests
+pub record IsEarlierRule (Stands : Standing) (Before : Order) (origin : Origin) (equation : Morphism × Morphism) : Type 0 where
+  pub from : Origin
+  pub before : Before from origin
+  pub rests : RestsOn Stands origin from
+  pub means : Means Stands from (law equation.0 equation.1)
 
 -- the statement is a rewrite, and the equation of its first term and its last has a derivation from rules that stand before it
-pub record HasProof (statements : List (List Word)) (number : ℕ) : Type 0 where
+pub record HasProof (Stands : Standing) (Before : Order) (origin : Origin) : Type 0 where
   pub site : Site
-  pub stands : Stands statements ([], number) site
+  pub stands : Stands origin site
   pub first : Morphism
   pub last : Morphism
   pub is_rewrite : IsRewriteOf site first last
   pub rules : List (Morphism × Morphism)
-  pub earlier : All (IsEarlierRule statements number) rules
+  pub earlier : All (IsEarlierRule Stands Before origin) rules
   pub derivation : Derives rules first last
 
 -- the statement is a rewrite whose step of this number, from 1, has this reason and leads from this term to that one; the steps
 -- before it are good
-pub record HasStep (statements : List (List Word)) (number step : ℕ) (reason : Reason) (from to : Morphism) : Type 0 where
+pub record HasStep (Stands : Standing) (origin : Origin) (step : ℕ) (reason : Reason) (from to : Morphism) : Type 0 where
   pub site : Site
-  pub stands : Stands statements ([], number) site
+  pub stands : Stands origin site
   pub tree : StatementTree
   pub is_sentence : IsSentence site.scope.words tree
   pub k : ℕ
@@ -56,55 +60,59 @@ pub record HasStep (statements : List (List Word)) (number step : ℕ) (reason :
   pub front : AreGood (moves_at site tree) k
 
 -- a step without a rule, whose equation the monoidal laws don't derive
-pub record HasNoDerivation (statements : List (List Word)) (number step : ℕ) : Type 0 where
+pub record HasNoDerivation (Stands : Standing) (origin : Origin) (step : ℕ) : Type 0 where
   pub from : Morphism
   pub to : Morphism
-  pub is_step : HasStep statements number step by_laws from to
+  pub is_step : HasStep Stands origin step by_laws from to
   pub none : ¬ Derives [] from to
 
 -- a step by a rule, which no context rewrites from the term to the goal; its left side has so many occurrences in the term
-pub record HasNoContext (statements : List (List Word)) (number step occurrences : ℕ) : Type 0 where
+pub record HasNoContext (Stands : Standing) (origin : Origin) (step occurrences : ℕ) : Type 0 where
   pub left : Morphism
   pub right : Morphism
   pub from : Morphism
   pub to : Morphism
-  pub is_step : HasStep statements number step (by_rule (left, right)) from to
+  pub is_step : HasStep Stands origin step (by_rule (left, right)) from to
   pub none : ¬ RewritesInContext left right from to
   pub occur : HaveOccurrences left from occurrences
 
 -- a step by a rule whose left side has so many placements in the term, which are too many
-pub record HasManyPlacements (statements : List (List Word)) (number step placements : ℕ) : Type 0 where
+pub record HasManyPlacements (Stands : Standing) (origin : Origin) (step placements : ℕ) : Type 0 where
   pub left : Morphism
   pub right : Morphism
   pub from : Morphism
   pub to : Morphism
-  pub is_step : HasStep statements number step (by_rule (left, right)) from to
+  pub is_step : HasStep Stands origin step (by_rule (left, right)) from to
   pub many : most_placements < placements
   pub are : HavePlacements left from placements
 
 -- a step by `simp`, whose terms compare so by its rules
-pub record HasComparison (statements : List (List Word)) (number step : ℕ) (comparison : Comparison) : Type 0 where
+pub record HasComparison (Stands : Standing) (origin : Origin) (step : ℕ) (comparison : Comparison) : Type 0 where
   pub rules : List (Morphism × Morphism)
   pub from : Morphism
   pub to : Morphism
-  pub is_step : HasStep statements number step (by_simp rules) from to
+  pub is_step : HasStep Stands origin step (by_simp rules) from to
   pub is : IsComparison rules from to comparison
 
--- what the verdict says of the statement of this number
-abbrev pub Explains : List (List Word) → ℕ → Verdict → Type 0
-Explains statements number Proved = HasProof statements number
-Explains statements number (Differs step) = HasNoDerivation statements number step
-Explains statements number (NoRewrite step occurrences) = HasNoContext statements number step occurrences
-Explains statements number (TooWide step placements) =
-    HasManyPlacements statements number step placements ⊎ HasComparison statements number step (compared.TooWide placements)
-Explains statements number (SimpDiffers step) = HasComparison statements number step Different
-Explains statements number (SimpLimit step) = HasComparison statements number step AtLimit
-Explains statements number _ = Unit {0}
+-- what the verdict says of the statement
+abbrev pub Explains : Standing → Order → Origin → Verdict → Type 0
+Explains Stands Before origin Proved = HasProof Stands Before origin
+Explains Stands Before origin (Differs step) = HasNoDerivation Stands origin step
+Explains Stands Before origin (NoRewrite step occurrences) = HasNoContext Stands origin step occurrences
+Explains Stands Before origin (TooWide step placements) =
+    HasManyPlacements Stands origin step placements ⊎ HasComparison Stands origin step (compared.TooWide placements)
+Explains Stands Before origin (SimpDiffers step) = HasComparison Stands origin step Different
+Explains Stands Before origin (SimpLimit step) = HasComparison Stands origin step AtLimit
+Explains Stands Before origin _ = Unit {0}
+
+-- in one text a statement of a smaller number stands before another
+abbrev pub IsBefore : Order
+IsBefore one other = one.1 < other.1
 
 -- what the verdicts say of these statements, one by one, is so
 abbrev pub AreExplained : List (List Word) → List Verdict → Type 0
-AreExplained statements verdicts =
-    (number : ℕ) (verdict : Verdict) → slice_get verdicts number ≡ Some verdict → Explains statements number verdict
+AreExplained statements verdicts = (number : ℕ) (verdict : Verdict) → slice_get verdicts number ≡ Some verdict
+    → Explains (Stands statements) IsBefore ([], number) verdict
 
 -- what the verdicts of a text say is so
 abbrev pub VerdictsAreExplained : Type 0
