@@ -1,5 +1,5 @@
 -- What modules make depends on the texts of the modules that they reach, and on no other.
-use Rattle.std.proofs.Common.{◌≡◌, ℕ, Bool, true, false, cond, List, [], ◌∷◌, length, map, Option, Some, None, All, ◌⊎◌, inl, inr, refl, sym, ◌∙◌, ap, subst, arith}
+use Rattle.std.proofs.Common.{◌≡◌, ℕ, Bool, true, false, cond, List, [], ◌∷◌, length, map, Some, None, All, ◌⊎◌, inl, inr, refl, sym, ◌∙◌, ap, subst, arith}
 use Rattle.std.specs.Prelude.{Contains, find}
 use Rattle.std.specs.Option.{option_map_or}
 use Rattle.std.specs.Str.{bytes_eq}
@@ -13,8 +13,7 @@ use Rattle.chyp_verdicts.specs.Standing.{Gets}
 use Rattle.chyp_verdicts.proofs.Bindings.{Contains-cons, Contains-from_cons, names-eq, names-same}
 use Rattle.chyp_modules.specs.Checking.{AreAllWanted, AreWanted, Gives, HaveStatements, IsWanted, Result, all_checked, long_module, long_text, many_modules, of_more, of_none}
 use Rattle.chyp_modules.specs.Import.{Imports, LeadsTo, Reaches, at_once, by_way_of}
-use Rattle.chyp_modules.specs.Laws.{library_of}
-use Rattle.chyp_modules.specs.Library.{IsModule, Library, with_main}
+use Rattle.chyp_modules.specs.Library.{IsModule, Library, Module, library_of, with_main}
 use Rattle.chyp_modules.specs.Modules.{AreVerdicts, Finds, Makes, Stands, at_start, no_import, of_circle, of_module as found, of_none as absent, one_more, standing, stands}
 
 -- both libraries have the same text of this module, and of each that it reaches in the one
@@ -149,9 +148,6 @@ gives-agrees one other text result agree (all_checked {names} {verdicts} {checks
     (wanted-statements-agree W V names checks agree w.0 h)
 
 -- ---- finite libraries
-
-abbrev Module : Type 0
-Module = List ℕ × Option (List ℕ)
 
 -- a library made of modules as another tells them agrees with that on each name among them
 pub listed-agrees : (modules : List Module) (other : Library) → All (λ (m : Module). m.1 ≡ other m.0) modules → (name : List ℕ) → Contains (map (λ (m : Module). m.0) modules) name

@@ -72,7 +72,9 @@ meaning-bound s bound token = go (binding_at s.scope token) refl
   where
     go : (o : Option Binding) → binding_at s.scope token ≡ o → HasBoundGenerators s.scope.env (option_map_or (λ (b : Binding). term_of b.sense) o empty)
     go None e = tt
-    go (Some b) e = let has = binding-found s.scope.env (bytes_at s.scope.words token) b e in sense-term s.scope.env b.sense (All-contains (λ (x : Binding). HasBoundSense s.scope.env x.sense) s.scope.env b bound has.0)
+    go (Some b) e =
+        let has = binding-found s.scope.env (bytes_at s.scope.words token) b e in
+        sense-term s.scope.env b.sense (All-contains (λ (x : Binding). HasBoundSense s.scope.env x.sense) s.scope.env b bound has.0)
 
 halved-bound : (P : Morphism → Type 0) (join : Morphism → Morphism → Morphism) → P empty → ((s t : Morphism) → P s → P t → P (join s t)) → (most : ℕ) (parts : List Morphism) → All P parts
     → P (halved_by empty most join parts)
@@ -190,7 +192,8 @@ binds-bound library known s n v next meant im bound ib j (anew {name} {sense} e 
     let b : Binding = record { name = name; origin = (s.home, n); sense = sense } in
     let after = s.scope.env ++ b ∷ [] in
     let P : Binding → Type 0 = λ c. HasBoundSense after c.sense in
-    All-append P s.scope.env (b ∷ []) (λ k d h. sense-covered s.scope.env after (covers-append s.scope.env (b ∷ [])) _ (bound k d h)) (All-cons P b [] (sense-bound s bound v sense x name (s.home, n)) (All-nil P))
+    All-append P s.scope.env (b ∷ []) (λ k d h. sense-covered s.scope.env after (covers-append s.scope.env (b ∷ [])) _ (bound k d h))
+    (All-cons P b [] (sense-bound s bound v sense x name (s.home, n)) (All-nil P))
 binds-bound library known s n v next meant im bound ib j (imports {word} {as_word} {env} f t i) =
     let none = no-clash known s v env word as_word j f t i in
     let prefix = prefix_at s.scope as_word in

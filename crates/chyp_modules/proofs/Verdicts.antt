@@ -1,5 +1,5 @@
 -- Each module has exactly one environment and one list of verdicts.
-use Rattle.std.proofs.Common.{◌≡◌, ℕ, Bool, true, false, cond, List, [], ◌∷◌, ◌++◌, length, map, Option, Some, None, refl, sym, ◌∙◌, ap, subst, arith}
+use Rattle.std.proofs.Common.{◌≡◌, ℕ, Bool, true, false, cond, List, [], ◌∷◌, ◌++◌, length, map, Some, None, refl, sym, ◌∙◌, ap, subst, arith}
 use Rattle.std.specs.Prelude.{Contains, find}
 use Rattle.std.specs.Option.{option_map_or}
 use Rattle.std.specs.Str.{bytes_eq}
@@ -7,10 +7,10 @@ use Rattle.chyp_base.specs.declared.verdict.Verdict.{Verdict}
 use Rattle.chyp_syntax.specs.Words.{Word}
 use Rattle.chyp_env.specs.Environment.{Binding}
 use Rattle.chyp_env.specs.Site.{Site}
-use Rattle.chyp_modules.specs.Library.{Library, IsModule, with_main}
+use Rattle.chyp_modules.specs.Library.{Library, IsModule, Module, library_of, with_main}
 use Rattle.chyp_verdicts.specs.Judged.{IsJudged}
 use Rattle.chyp_modules.specs.Modules.{Makes, at_start, one_more, Stands, stands, standing}
-use Rattle.chyp_modules.specs.Laws.{HasOneEnvironment, HasOneListOfVerdicts, ModulesAreDetermined, TextsAreDetermined, ReachesFinitelyMany, library_of}
+use Rattle.chyp_modules.specs.Laws.{HasOneEnvironment, HasOneListOfVerdicts, ModulesAreDetermined, TextsAreDetermined, ReachesFinitelyMany}
 use Rattle.chyp_verdicts.proofs.Bindings.{Contains-cons, names-eq}
 use Rattle.chyp_verdicts.proofs.Known.{Known}
 use Rattle.chyp_verdicts.proofs.OneVerdict.{judged-once}
@@ -75,22 +75,22 @@ modules-determined known library name text there finite =
 
 -- ---- finite libraries
 
-find-name : (modules : List (List ℕ × Option (List ℕ))) (name text : List ℕ) → library_of modules name ≡ Some text → Contains (map (λ (m : List ℕ × Option (List ℕ)). m.0) modules) name
+find-name : (modules : List Module) (name text : List ℕ) → library_of modules name ≡ Some text → Contains (map (λ (m : Module). m.0) modules) name
 find-name [] name text e = absurd cc
 find-name (m ∷ ms) name text e = go (bytes_eq name m.0) refl e (find-name ms name text)
   where
-    go : (b : Bool) → bytes_eq name m.0 ≡ b → option_map_or (λ (x : List ℕ × Option (List ℕ)). x.1) (cond b (Some m) (find (λ (x : List ℕ × Option (List ℕ)). bytes_eq name x.0) ms)) None ≡ Some text
-        → (library_of ms name ≡ Some text → Contains (map (λ (x : List ℕ × Option (List ℕ)). x.0) ms) name) → Contains (map (λ (x : List ℕ × Option (List ℕ)). x.0) (m ∷ ms)) name
+    go : (b : Bool) → bytes_eq name m.0 ≡ b → option_map_or (λ (x : Module). x.1) (cond b (Some m) (find (λ (x : Module). bytes_eq name x.0) ms)) None ≡ Some text
+        → (library_of ms name ≡ Some text → Contains (map (λ (x : Module). x.0) ms) name) → Contains (map (λ (x : Module). x.0) (m ∷ ms)) name
     go true h f rest = (0, omega arith, sym (names-eq name m.0 h))
-    go false h f rest = Contains-cons m.0 (map (λ (x : List ℕ × Option (List ℕ)). x.0) ms) name (rest f)
+    go false h f rest = Contains-cons m.0 (map (λ (x : Module). x.0) ms) name (rest f)
 
 -- a library of finitely many modules, with a main text, reaches finitely many
-pub library-finite : (modules : List (List ℕ × Option (List ℕ))) (text name : List ℕ) → ReachesFinitelyMany (with_main (library_of modules) text) name
-library-finite modules text name = ([] ∷ map (λ (m : List ℕ × Option (List ℕ)). m.0) modules, λ other whole r t. go other whole t)
+pub library-finite : (modules : List Module) (text name : List ℕ) → ReachesFinitelyMany (with_main (library_of modules) text) name
+library-finite modules text name = ([] ∷ map (λ (m : Module). m.0) modules, λ other whole r t. go other whole t)
   where
-    go : (other whole : List ℕ) → with_main (library_of modules) text other ≡ Some whole → Contains ([] ∷ map (λ (m : List ℕ × Option (List ℕ)). m.0) modules) other
+    go : (other whole : List ℕ) → with_main (library_of modules) text other ≡ Some whole → Contains ([] ∷ map (λ (m : Module). m.0) modules) other
     go [] whole t = (0, omega arith, refl)
-    go (c ∷ cs) whole t = Contains-cons [] (map (λ (m : List ℕ × Option (List ℕ)). m.0) modules) (c ∷ cs) (find-name modules (c ∷ cs) whole t)
+    go (c ∷ cs) whole t = Contains-cons [] (map (λ (m : Module). m.0) modules) (c ∷ cs) (find-name modules (c ∷ cs) whole t)
 
 -- so each main text over finitely many modules has exactly one list of verdicts
 pub texts-determined : Known → TextsAreDetermined

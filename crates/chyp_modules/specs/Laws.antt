@@ -1,7 +1,5 @@
 -- What holds of the modules of a library.
-use Rattle.std.specs.Prelude.{◌≡◌, ℕ, List, [], Option, None, Some, Contains, find}
-use Rattle.std.specs.Option.{option_map_or}
-use Rattle.std.specs.Str.{bytes_eq}
+use Rattle.std.specs.Prelude.{◌≡◌, ℕ, List, [], Some, Contains}
 use Rattle.chyp_base.specs.declared.sort.Sort.{Sort}
 use Rattle.chyp_base.specs.declared.verdict.Verdict.{Verdict}
 use Rattle.chyp_base.specs.declared.verdict.Verdict.TheVariants.{Proved}
@@ -11,7 +9,7 @@ use Rattle.chyp_env.specs.Site.{Site}
 use Rattle.chyp_verdicts.specs.Judged.{IsJudged}
 use Rattle.chyp_verdicts.specs.Rules.{IsDerived, IsRewriteOf}
 use Rattle.chyp_modules.specs.Import.{Reaches}
-use Rattle.chyp_modules.specs.Library.{Library, with_main}
+use Rattle.chyp_modules.specs.Library.{Library, Module, library_of, with_main}
 use Rattle.chyp_modules.specs.Modules.{Makes, Stands, HasEnvironment, AreVerdicts, standing}
 
 -- all modules that are there and that this one reaches are among these
@@ -21,11 +19,6 @@ ReachesOnly library names name = (other text : List ℕ) → Reaches library nam
 -- the module reaches only finitely many
 abbrev pub ReachesFinitelyMany : Library → List ℕ → Type 0
 ReachesFinitelyMany library name = (names : List (List ℕ)) × ReachesOnly library names name
-
--- the library of finitely many names, each with its text or absent; all others are absent
-abbrev pub library_of : List (List ℕ × Option (List ℕ)) → Library
-library_of modules name = option_map_or (λ (m : List ℕ × Option (List ℕ)). m.1)
-    (find (λ (m : List ℕ × Option (List ℕ)). bytes_eq name m.0) modules) None
 
 -- a module makes exactly one environment
 pub record HasOneEnvironment (library : Library) (name : List ℕ) : Type 0 where
@@ -46,7 +39,7 @@ ModulesAreDetermined = (library : Library) (name text : List ℕ) → library na
 
 -- and so for each main text, over any finitely many modules
 abbrev pub TextsAreDetermined : Type 0
-TextsAreDetermined = (modules : List (List ℕ × Option (List ℕ))) (text : List ℕ)
+TextsAreDetermined = (modules : List Module) (text : List ℕ)
     → HasOneEnvironment (with_main (library_of modules) text) [] × HasOneListOfVerdicts (with_main (library_of modules) text) []
 
 -- a rewrite that is proved has a derivation, from its first term to its last, from rules that are permitted to it

@@ -108,7 +108,8 @@ reason-laws P site (Rule signed) each = All-cons P (equation_at site.scope signe
     go : (at : IsLawThere site signed.name) × P (at.first, at.last) × P (at.last, at.first) → P (equation_at site.scope signed)
     go h = elim (equation-law site signed h.0) [ inl e ↦ subst P (sym e) h.1 | inr e ↦ subst P (sym e) h.2 ]
 reason-laws P site (Simp rules) each =
-    All-map P (equation_at site.scope) rules (All-from (λ signed. P (equation_at site.scope signed)) rules (λ signed c. go signed (each signed.name (Contains-map (λ (s : SignedAst). s.name) rules signed c))))
+    All-map P (equation_at site.scope) rules
+    (All-from (λ signed. P (equation_at site.scope signed)) rules (λ signed c. go signed (each signed.name (Contains-map (λ (s : SignedAst). s.name) rules signed c))))
   where
     go : (signed : SignedAst) → (at : IsLawThere site signed.name) × P (at.first, at.last) × P (at.last, at.first) → P (equation_at site.scope signed)
     go signed h = elim (equation-law site signed h.0) [ inl e ↦ subst P (sym e) h.1 | inr e ↦ subst P (sym e) h.2 ]

@@ -186,4 +186,5 @@ judged-once known site v w (by_steps {name} {first} {steps} s p x) (refused {tre
 judged-once known site v w (by_steps {name} {first} {steps} s p x) (accepted {tree} t q n) =
     absurd (false≢true (sym (subst (λ y. is_rewrite y ≡ false) (known.trees site.scope.words tree (rewrite name first steps) t s) n)))
 judged-once known site v w (by_steps {name} {first} {steps} s p x) (by_steps {name = a} {first = b} {steps = c} t q y) =
-    steps-once (terms_of site (rewrite name first steps)) (steps_at site.scope (rewrite name first steps)) (has_hole (rewrite name first steps)) v w x (subst (on_tree site w) (known.trees site.scope.words (rewrite a b c) (rewrite name first steps) t s) y)
+    steps-once (terms_of site (rewrite name first steps)) (steps_at site.scope (rewrite name first steps)) (has_hole (rewrite name first steps)) v w x
+    (subst (on_tree site w) (known.trees site.scope.words (rewrite a b c) (rewrite name first steps) t s) y)

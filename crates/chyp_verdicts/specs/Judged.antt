@@ -26,9 +26,11 @@ moves_at site tree = moves_of (terms_of site tree) (steps_at site.scope tree)
 -- else it is accepted, and a rewrite gets the verdict on its steps.
 pub data IsJudged (site : Site) : Verdict → Type 0 where
   no_sentence : {k : ℕ} → FailsAt site.scope.words k → IsJudged site (Syntax k)
-  refused : {tree : StatementTree} {verdict : Verdict} → IsSentence site.scope.words tree → IsRefused site tree verdict → IsJudged site verdict
+  refused : {tree : StatementTree} {verdict : Verdict} → IsSentence site.scope.words tree → IsRefused site tree verdict
+      → IsJudged site verdict
   accepted : {tree : StatementTree} → IsSentence site.scope.words tree → Passes site tree → is_rewrite tree ≡ false → IsJudged site Accepted
-  by_steps : {name : ℕ} {first : TermTree} {steps : List StepTree} {verdict : Verdict} → IsSentence site.scope.words (rewrite name first steps)
+  by_steps : {name : ℕ} {first : TermTree} {steps : List StepTree} {verdict : Verdict}
+      → IsSentence site.scope.words (rewrite name first steps)
       → Passes site (rewrite name first steps)
       → IsVerdictOnSteps (terms_of site (rewrite name first steps)) (steps_at site.scope (rewrite name first steps))
       (has_hole (rewrite name first steps)) verdict

@@ -71,5 +71,5 @@ pub record IsRewriteOf (site : Site) (first last : Morphism) : Type 0 where
 
 -- where a rewrite is proved, its last term follows from its first by the equations that it cites; names stand for sound things
 abbrev pub ProvedRewritesFollow : Type 0
-ProvedRewritesFollow = (site : Site) → IsSound site.scope.env → IsJudged site Proved → (first last : Morphism) → (is : IsRewriteOf site first last)
-    → Derives (cited_by site (rewrite is.name is.tree is.steps)) first last
+ProvedRewritesFollow = (site : Site) → IsSound site.scope.env → IsJudged site Proved → (first last : Morphism)
+    → (is : IsRewriteOf site first last) → Derives (cited_by site (rewrite is.name is.tree is.steps)) first last
