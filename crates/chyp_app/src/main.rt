@@ -19,7 +19,7 @@ mod tests;
 ghost use Rattle.std.specs.Prelude.{◌≡◌, ◌<◌};
 
 use crate::run::run;
-use chyp_base::{MemLibrary, Status, StdSink, StdSource, Steps};
+use chyp_base::{DirLibrary, Status, StdSink, StdSource, Steps};
 use std::alloc::Global;
 use std::io::ErrorKind;
 use std::marker::Brand;
@@ -48,7 +48,7 @@ fn run_outside<G: Ledger>(rt: &HostRuntime, alloc: Global, words: &[&str], blank
 {
     let mut source = StdSource::new(rt.stdin());
     let mut sink = StdSink::new(rt.stdout());
-    let mut library = MemLibrary::new(Vec::new(alloc), Vec::new(alloc));
+    let mut library = DirLibrary::new(alloc, *rt);
     let mut steps = Steps::<G>::new(blank);
     run(
         alloc,

@@ -2,9 +2,10 @@
 ghost use Rattle.std.specs.Prelude.{◌≡◌, ◌<◌, ◌≤◌, IfOk};
 
 use crate::{
-    Failed, Found, Library, LibraryError, MemLibrary, MemSink, MemSource, Name, Sink, Sort, Sorts,
-    Source, Status, StdSink, StdSource, Steps, Text, Verdict,
+    DirLibrary, Failed, Found, Library, LibraryError, MemLibrary, MemSink, MemSource, Name, Sink,
+    Sort, Sorts, Source, Status, StdSink, StdSource, Steps, Text, Verdict,
 };
+use std::fs;
 use std::io::{ErrorKind, Read, Write};
 use std::marker::Brand;
 use std::sync::ledger::{Blank, Ledger};
@@ -199,6 +200,21 @@ fn the_first_module_of_a_name_is_found(rt: HostRuntime) -> Result<(), Fail> {
     assert_eq!(rt; library.read("c", &mut text), Ok(Found::Absent));
     assert_eq!(rt; library.read("b", &mut text), Ok(Found::There));
     assert_eq!(rt; library.read("a", &mut text), Err(LibraryError::Failed));
+    assert!(rt; text.is_empty());
+    Ok(())
+}
+
+#[test]
+fn modules_are_files_of_the_folder(rt: HostRuntime) -> Result<(), Fail> {
+    let alloc = rt.alloc();
+    fs::write(&rt, "a.chyp", b"gen f : 1 -> 1\n")?;
+    fs::create_dir(&rt, "m.chyp")?;
+    let mut library = DirLibrary::new(alloc, rt);
+    let mut text = Vec::from_slice(alloc, b"old")?;
+    assert_eq!(rt; library.read("a", &mut text), Ok(Found::There));
+    assert_eq!(rt; text.as_slice(), b"gen f : 1 -> 1\n".as_slice());
+    assert_eq!(rt; library.read("b", &mut text), Ok(Found::Absent));
+    assert_eq!(rt; library.read("m", &mut text), Err(LibraryError::Failed));
     assert!(rt; text.is_empty());
     Ok(())
 }
