@@ -39,7 +39,8 @@ permuted-next xs ks i k x e f = ap (permuted xs) (take-suc ks i k e) ∙ permute
 
 pub flat-next : {A B : Type 0} (f : A → List B) (xs : List A) (ks : List ℕ) (i k : ℕ) (x : A) → slice_get ks i ≡ Some k → slice_get xs k ≡ Some x
     → flat_map f (permuted xs (take (i + 1) ks)) ≡ flat_map f (permuted xs (take i ks)) ++ f x
-flat-next {B = B} f xs ks i k x e h = ap (flat_map f) (permuted-next xs ks i k x e h) ∙ flat-append f (permuted xs (take i ks)) (x ∷ []) ∙ ap (λ l. flat_map f (permuted xs (take i ks)) ++ l) (end (f x))
+flat-next {B = B} f xs ks i k x e h = ap (flat_map f) (permuted-next xs ks i k x e h) ∙ flat-append f (permuted xs (take i ks)) (x ∷ [])
+    ∙ ap (λ l. flat_map f (permuted xs (take i ks)) ++ l) (end (f x))
   where
     end : (l : List B) → l ++ [] ≡ l
     end [] = refl

@@ -37,7 +37,8 @@ places-read live table wanted t a = go wanted (λ w m. All-member (λ w. is_amon
 
 counts-append : (k : ℕ) (xs ys : List ℕ) → counts_from k (xs ++ ys) ≡ counts_from k xs && counts_from (k + length xs) ys
 counts-append k [] ys = ap (λ n. counts_from n ys) (sym (add-zero k))
-counts-append k (x ∷ xs) ys = ap (λ b. eqb k x && b) (counts-append (suc k) xs ys ∙ ap (λ n. counts_from (suc k) xs && counts_from n ys) shift) ∙ assoc (eqb k x) (counts_from (suc k) xs) (counts_from (k + suc (length xs)) ys)
+counts-append k (x ∷ xs) ys = ap (λ b. eqb k x && b) (counts-append (suc k) xs ys ∙ ap (λ n. counts_from (suc k) xs && counts_from n ys) shift)
+    ∙ assoc (eqb k x) (counts_from (suc k) xs) (counts_from (k + suc (length xs)) ys)
   where
     shift : suc k + length xs ≡ k + suc (length xs)
     shift = omega arith

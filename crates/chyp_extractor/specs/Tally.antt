@@ -20,7 +20,8 @@ AreWires g stack = All (λ w. w < length g.wires) stack
 
 -- no wire is lost but those that are used within n rounds, and some given ones, once they are used
 abbrev pub KeepsUnused : PlainGraph → ℕ → List ℕ → List ℕ → List ℕ → Type 0
-KeepsUnused g n given before after = (m : ℕ) → n ≤ m → All (λ w. is_used_within g m w ≡ true) given → unused_in g m after ≡ unused_in g m before
+KeepsUnused g n given before after = (m : ℕ) → n ≤ m → All (λ w. is_used_within g m w ≡ true) given
+    → unused_in g m after ≡ unused_in g m before
 
 -- the list begins with these numbers
 abbrev pub begins : List ℕ → List ℕ → Bool

@@ -162,3 +162,25 @@ listed-agrees (m ∷ ms) other told name c =
     go true e rest d = All-head (λ (m : Module). m.1 ≡ other m.0) m ms told ∙ ap other (sym (names-eq name m.0 e))
     go false e rest (inl s) = absurd (false≢true (sym e ∙ names-same name m.0 (sym s)))
     go false e rest (inr d) = rest d
+
+-- names among which are all that the main text and they lead to have all that the main text reaches
+pub closed-reached : (library : Library) (names : List (List ℕ)) → ((from other : List ℕ) → Contains ([] ∷ names) from → LeadsTo library from other → Contains names other)
+    → (name : List ℕ) → Reaches library [] name → Contains names name
+closed-reached library names closed name r = go [] (0, omega arith, refl) name r
+  where
+    go : (from : List ℕ) → Contains ([] ∷ names) from → (name : List ℕ) → Reaches library from name → Contains names name
+    go from c name (at_once l) = closed from name c l
+    go from c name (by_way_of {next} l r) = go next (Contains-cons [] names next (closed from next c l)) name r
+
+-- where all that the main text reaches in a library is among modules as it tells them, these make a library that agrees with it
+pub listed-main : (modules : List Module) (library : Library) (text : List ℕ) → All (λ (m : Module). m.1 ≡ library m.0) modules
+    → ((name : List ℕ) → Reaches (with_main library text) [] name → Contains (map (λ (m : Module). m.0) modules) name)
+    → AgreeFrom (with_main library text) (with_main (library_of modules) text) []
+listed-main modules library text told listed = agree-main library (library_of modules) text (λ name r. sym (listed-agrees modules library told name (listed name r)))
+
+-- so all that it reaches in the library that they make is among them
+pub listed-reached : (modules : List Module) (library : Library) (text : List ℕ) → All (λ (m : Module). m.1 ≡ library m.0) modules
+    → ((name : List ℕ) → Reaches (with_main library text) [] name → Contains (map (λ (m : Module). m.0) modules) name)
+    → (name : List ℕ) → Reaches (with_main (library_of modules) text) [] name → Contains (map (λ (m : Module). m.0) modules) name
+listed-reached modules library text told listed name r =
+    listed name (reaches-agreed (with_main library text) (with_main (library_of modules) text) [] name (listed-main modules library text told listed) r)

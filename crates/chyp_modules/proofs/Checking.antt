@@ -16,12 +16,12 @@ use Rattle.chyp_modules.proofs.Once.{imports-unique, module-unique}
 use Rattle.chyp_modules.proofs.Reaching.{SomeImport, begins, import-or-not, statements-there, without, without-shorter, differ-not, reaches-step}
 use Rattle.chyp_modules.proofs.Verdicts.{modules-determined}
 
-abbrev Names : Type 0
+abbrev pub Names : Type 0
 Names = List (List ℕ)
 
 -- ---- lists of names
 
-contains-or-not : (names : Names) (name : List ℕ) → Contains names name ⊎ ¬ Contains names name
+pub contains-or-not : (names : Names) (name : List ℕ) → Contains names name ⊎ ¬ Contains names name
 contains-or-not [] name = inr (λ c. absurd (omega (arith, c.1)))
 contains-or-not (n ∷ ns) name = go (bytes_eq n name) refl (contains-or-not ns name)
   where
@@ -46,7 +46,7 @@ without-not name names c = go (bytes_eq name name) (names-same name name refl) (
     go false e n = false≢true e
 
 -- distinct names among others are no more than those
-no-more : (xs ys : Names) → AreDistinct xs → ((name : List ℕ) → Contains xs name → Contains ys name) → length xs ≤ length ys
+pub no-more : (xs ys : Names) → AreDistinct xs → ((name : List ℕ) → Contains xs name → Contains ys name) → length xs ≤ length ys
 no-more [] ys d among = omega arith
 no-more (x ∷ xs) ys d among =
     let rest = no-more xs (without x ys) d.1
@@ -103,7 +103,7 @@ pick library name (x ∷ xs) n d c (of_more {text} {statements} {n = k} m h) = g
         }
 
 -- the same modules have as many statements, in whatever order they stand
-count-once : Known → (library : Library) (xs ys : Names) (m n : ℕ) → AreDistinct xs → AreDistinct ys → ((name : List ℕ) → Contains xs name → Contains ys name)
+pub count-once : Known → (library : Library) (xs ys : Names) (m n : ℕ) → AreDistinct xs → AreDistinct ys → ((name : List ℕ) → Contains xs name → Contains ys name)
     → ((name : List ℕ) → Contains ys name → Contains xs name)
     → HaveStatements library xs m → HaveStatements library ys n → m ≡ n
 count-once known library [] [] m n d e f g of_none of_none = refl

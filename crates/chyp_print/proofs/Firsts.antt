@@ -28,7 +28,8 @@ first_number-append k name (first ∷ env) b =
     (cases_Bool (is_named name first.sense))
 
 -- one more binding is noted
-pub noted-next : (env : List Binding) (i : ℕ) (b : Binding) (before after : List (Vec ℕ Global × ℕ)) → slice_get env i ≡ Some b → i < length env → IsIndex (take i env) before → IsNoted b.sense i before after
+pub noted-next : (env : List Binding) (i : ℕ) (b : Binding) (before after : List (Vec ℕ Global × ℕ)) → slice_get env i ≡ Some b → i < length env → IsIndex (take i env) before
+    → IsNoted b.sense i before after
     → IsIndex (take (i + 1) env) after
 noted-next env i b before after there within index noted name =
     let taken : take (i + 1) env ≡ take i env ++ b ∷ [] = take-suc env i b there in
@@ -130,7 +131,8 @@ module _ (n : List ℕ) (a b : List Sort) where
   some-noted env numbers i index some = from-first env i (sym (index n) ∙ some)
 
 -- a look-up that finds nothing
-pub copied-none : (own name : List ℕ) (result : Option (Bor ℕ)) (pairs : List (Vec ℕ Global × ℕ)) → name ≡ own → is_some result ≡ false → option_copied result ≡ number_of name pairs → number_of own pairs ≡ None
+pub copied-none : (own name : List ℕ) (result : Option (Bor ℕ)) (pairs : List (Vec ℕ Global × ℕ))
+    → name ≡ own → is_some result ≡ false → option_copied result ≡ number_of name pairs → number_of own pairs ≡ None
 copied-none own name None pairs same none e = ap (λ k. number_of k pairs) (sym same) ∙ sym e
 copied-none own name (Some x) pairs same none e = absurd (false≢true (sym none))
 

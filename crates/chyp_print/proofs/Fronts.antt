@@ -128,7 +128,8 @@ module _ (Fits : ℕ → Token → Type 0) where
       (behind-blank Second (at + 1 + length (c ∷ [])) next rest clear (moved Second (at + 3) (at + 1 + length (c ∷ []) + 1) next rest place s))))
 
   -- a piece in parentheses
-  pub enclosed : (Inner : List NumberedToken → Type 0) (start : ℕ) (piece rest : List ℕ) → Lexed Fits Inner (start + 1) piece (41 ∷ rest) → Lexed Fits (AreEnclosed Inner) start (40 ∷ (piece ++ 41 ∷ [])) rest
+  pub enclosed : (Inner : List NumberedToken → Type 0) (start : ℕ) (piece rest : List ℕ) → Lexed Fits Inner (start + 1) piece (41 ∷ rest)
+      → Lexed Fits (AreEnclosed Inner) start (40 ∷ (piece ++ 41 ∷ [])) rest
   unfolding symbol_of
   enclosed Inner start piece rest l =
       both (IsOfKind LeftParenthesis) (Both Inner (IsOfKind RightParenthesis)) start (40 ∷ []) (piece ++ 41 ∷ []) rest (symbol start 40 ((piece ++ 41 ∷ []) ++ rest) LeftParenthesis refl)

@@ -57,7 +57,8 @@ IsNumber n word = (kind_of word ≡ Number) × (value_of word ≡ n)
 one-number : (n : ℕ) (tokens : List NumberedToken) → IsWord (IsNumber n) tokens → AreNumbers tokens (n ∷ [])
 one-number n tokens w = rw (w.all, ← w.is.1) (one_number w.is.0)
 
-more-numbers : (n : ℕ) (places : List ℕ) (tokens : List NumberedToken) → Both (IsWord (IsNumber n)) (Both (IsOfKind Comma) (λ numbers. AreNumbers numbers places)) tokens → AreNumbers tokens (n ∷ places)
+more-numbers : (n : ℕ) (places : List ℕ) (tokens : List NumberedToken) → Both (IsWord (IsNumber n)) (Both (IsOfKind Comma) (λ numbers. AreNumbers numbers places)) tokens
+    → AreNumbers tokens (n ∷ places)
 more-numbers n places tokens b =
     let w = b.first in
     let c = b.second.first in
@@ -74,7 +75,8 @@ module _ (Fits : ℕ → Token → Type 0) where
       one Fits (IsNumber n) start (decimal n) rest Number (number-next n rest small e) numeral.0.0
       (λ k fit. (refl, ap (digits_value 10) (take-append_seam (decimal n) rest) ∙ numeral.1))
 
-  numbers : (start place : ℕ) (places rest : List ℕ) → All (λ k. k < 2 ^ 64) (place ∷ places) → Ends rest → Lexed Fits (λ tokens. AreNumbers tokens (place ∷ places)) start (with_commas (place ∷ places)) rest
+  numbers : (start place : ℕ) (places rest : List ℕ) → All (λ k. k < 2 ^ 64) (place ∷ places) → Ends rest
+      → Lexed Fits (λ tokens. AreNumbers tokens (place ∷ places)) start (with_commas (place ∷ places)) rest
   unfolding symbol_of
   numbers start place [] rest small e =
       weakened Fits (IsWord (IsNumber place)) (λ tokens. AreNumbers tokens (place ∷ [])) start (decimal place) rest (one-number place)
@@ -83,7 +85,8 @@ module _ (Fits : ℕ → Token → Type 0) where
       let comma : List ℕ = 44 ∷ [] in
       let others = with_commas (next ∷ places) in
       let at = start + length (decimal place) in
-      weakened Fits (Both (IsWord (IsNumber place)) (Both (IsOfKind Comma) (λ tokens. AreNumbers tokens (next ∷ places)))) (λ tokens. AreNumbers tokens (place ∷ next ∷ places)) start (decimal place ++ 44 ∷ others) rest
+      weakened Fits (Both (IsWord (IsNumber place)) (Both (IsOfKind Comma) (λ tokens. AreNumbers tokens (next ∷ places)))) (λ tokens. AreNumbers tokens (place ∷ next ∷ places))
+      start (decimal place ++ 44 ∷ others) rest
       (more-numbers place (next ∷ places))
       (both Fits (IsWord (IsNumber place)) (Both (IsOfKind Comma) (λ tokens. AreNumbers tokens (next ∷ places))) start (decimal place) (44 ∷ others) rest
       (number start place (44 ∷ (others ++ rest)) (small 0 0 (omega arith)) comma-ends)
@@ -99,7 +102,8 @@ module _ (Fits : ℕ → Token → Type 0) where
       let Numbers : List NumberedToken → Type 0 = λ tokens. AreNumbers tokens (place ∷ places) in
       both Fits (IsOfKind WordSw) (Both (IsOfKind LeftBracket) (Both Numbers (IsOfKind RightBracket))) start (codes "sw") (91 ∷ (inside ++ 93 ∷ [])) rest
       (word start (codes "sw") (91 ∷ ((inside ++ 93 ∷ []) ++ rest)) sw-word (omega arith) left_bracket-ends)
-      (both Fits (IsOfKind LeftBracket) (Both Numbers (IsOfKind RightBracket)) (start + 2) (91 ∷ []) (inside ++ 93 ∷ []) rest (symbol Fits (start + 2) 91 ((inside ++ 93 ∷ []) ++ rest) LeftBracket refl)
+      (both Fits (IsOfKind LeftBracket) (Both Numbers (IsOfKind RightBracket)) (start + 2) (91 ∷ []) (inside ++ 93 ∷ []) rest
+      (symbol Fits (start + 2) 91 ((inside ++ 93 ∷ []) ++ rest) LeftBracket refl)
       (both Fits Numbers (IsOfKind RightBracket) (start + 2 + length open') inside (93 ∷ []) rest (numbers (start + 2 + length open') place places (93 ∷ rest) small right_bracket-ends)
       (symbol Fits (start + 2 + length open' + length inside) 93 rest RightBracket refl)))
 
@@ -176,7 +180,8 @@ module _ (whole : List ℕ) (meaning : List ℕ → Morphism) (means : ℕ → M
   abbrev Fits : ℕ → Token → Type 0
   Fits = MeansIn whole meaning means
 
-  name-lexed : (t : Morphism) (start : ℕ) (name rest : List ℕ) → IsNameText name → meaning name ≡ t → Ends rest → drop start whole ≡ name ++ rest → Lexed Fits (IsWord (IsNameOf means t)) start name rest
+  name-lexed : (t : Morphism) (start : ℕ) (name rest : List ℕ) → IsNameText name → meaning name ≡ t → Ends rest → drop start whole ≡ name ++ rest
+      → Lexed Fits (IsWord (IsNameOf means t)) start name rest
   name-lexed t start name rest h is e at =
       let bytes : take (length name) (drop start whole) ≡ name = ap (take (length name)) at ∙ take-append_seam name rest in
       let same : meaning (take (length name) (drop start whole)) ≡ t = ap meaning bytes ∙ is in
@@ -189,14 +194,16 @@ module _ (whole : List ℕ) (meaning : List ℕ → Morphism) (means : ℕ → M
       ]
 
   module _ (naming : Naming) where
-    composed : (s t : Morphism) (start : ℕ) (rest : List ℕ) → AreReadable naming t → Lexed Fits (Spell means false s) start (printed_in naming false s) (32 ∷ 59 ∷ 32 ∷ (printed_in naming false t ++ rest))
+    composed : (s t : Morphism) (start : ℕ) (rest : List ℕ) → AreReadable naming t
+        → Lexed Fits (Spell means false s) start (printed_in naming false s) (32 ∷ 59 ∷ 32 ∷ (printed_in naming false t ++ rest))
         → Lexed Fits (Spell means false t) (start + length (printed_in naming false s) + 3) (printed_in naming false t) rest
         → Lexed Fits (AreJoined Semicolon (Spell means false s) (Spell means false t)) start (printed_in naming false (then s t)) rest
     unfolding symbol_of
     composed s t start rest h first second =
         joined Fits (Spell means false s) (Spell means false t) Semicolon 59 start (printed_in naming false s) (printed_in naming false t) rest refl refl (clear naming false t rest h) first second
 
-    tensored : (s t : Morphism) (start : ℕ) (rest : List ℕ) → AreReadable naming t → Lexed Fits (Spell means true s) start (printed_in naming true s) (32 ∷ 42 ∷ 32 ∷ (printed_in naming true t ++ rest))
+    tensored : (s t : Morphism) (start : ℕ) (rest : List ℕ) → AreReadable naming t
+        → Lexed Fits (Spell means true s) start (printed_in naming true s) (32 ∷ 42 ∷ 32 ∷ (printed_in naming true t ++ rest))
         → Lexed Fits (Spell means true t) (start + length (printed_in naming true s) + 3) (printed_in naming true t) rest
         → Lexed Fits (AreJoined Star (Spell means true s) (Spell means true t)) start (printed_in naming true (beside s t)) rest
     unfolding symbol_of

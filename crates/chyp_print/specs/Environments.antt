@@ -60,4 +60,5 @@ pub record CanBePrintedIn (env : List Binding) (t : Morphism) : Type 0 where
 
 -- in a sound environment the first names of its generators mean them, so the text of a term is read back
 abbrev pub NamesMeanGenerators : Type 0
-NamesMeanGenerators = (env : List Binding) (t : Morphism) → IsSound env → CanBePrintedIn env t → CanBePrinted (first_names env) (meaning_in env) t
+NamesMeanGenerators = (env : List Binding) (t : Morphism) → IsSound env → CanBePrintedIn env t
+    → CanBePrinted (first_names env) (meaning_in env) t

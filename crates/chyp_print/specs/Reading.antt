@@ -44,8 +44,10 @@ IsReadBack naming t text = (meaning : List ℕ → Morphism) → CanBePrinted na
 
 -- the text of a term that is read back from a graph is read back as that very term
 abbrev pub IsReadBackItself : Naming → Morphism → (text : List ℕ) → Type 0
-IsReadBackItself naming t text = (meaning : List ℕ → Morphism) (g : PlainGraph) → t ≡ extracted g → CanBePrinted naming meaning t → ReadsAs meaning text t
+IsReadBackItself naming t text = (meaning : List ℕ → Morphism) (g : PlainGraph) → t ≡ extracted g → CanBePrinted naming meaning t
+    → ReadsAs meaning text t
 
 -- so it is of each term
 abbrev pub PrintedReadsBack : Type 0
-PrintedReadsBack = (naming : Naming) (t : Morphism) → IsReadBack naming t (printed_by naming t) × IsReadBackItself naming t (printed_by naming t)
+PrintedReadsBack = (naming : Naming) (t : Morphism) →
+    IsReadBack naming t (printed_by naming t) × IsReadBackItself naming t (printed_by naming t)

@@ -13,7 +13,8 @@ pub returns-then-placements-gt-MOST_PLACEMENTS : goal.returns-then-placements-gt
 returns-then-placements-gt-MOST_PLACEMENTS c =
     let many = c.if-placements-gt-MOST_PLACEMENTS.true in
     wide
-    (have-placements (morphism_of c.args.rule.now.left) (morphism_of c.args.from.now) c.in_ok-left.left c.in_ok-from.from c.placements-placements.result (subst IsPattern c.left.view_is c.left.invariant)
+    (have-placements (morphism_of c.args.rule.now.left) (morphism_of c.args.from.now) c.in_ok-left.left c.in_ok-from.from c.placements-placements.result
+    (subst IsPattern c.left.view_is c.left.invariant)
     (c.in_ok-left.ensures.graph ∙ c.in_ok-of_term.ensures) c.in_ok-from.ensures c.placements-placements.ensures)
     (omega arith)
 

@@ -11,5 +11,5 @@ follow_ends-requires-clause-ends c p h =
     let e : c.index.result.now ≡ p =
     some-same c.index.result.now p (sym (get-item c.args.walk.now.partners.items c.args.at c.index.result.now c.requires.at c.index.ensures) ∙ h) in
     subst (λ (q : Partners). AreEnds c.args.walk.now.rewrite.now q c.consumer-first.result c.consumer-second.result) e
-    (ends-of_users c.args.walk.now.rewrite.now c.index.result.now c.consumer-first.result c.consumer-second.result c.consumer-first.ensures.port c.consumer-first.ensures.output c.consumer-second.ensures.port
-    c.consumer-second.ensures.output)
+    (ends-of_users c.args.walk.now.rewrite.now c.index.result.now c.consumer-first.result c.consumer-second.result c.consumer-first.ensures.port c.consumer-first.ensures.output
+    c.consumer-second.ensures.port c.consumer-second.ensures.output)

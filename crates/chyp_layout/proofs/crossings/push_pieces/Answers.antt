@@ -22,7 +22,8 @@ loop-at-preserved c =
     let n = c.args.gaps.now.ok.0 in
     let t = c.loop-at-test.true in
     let old = c.index_mut-gap.result.now in
-    let is : c.piece_after.result ≡ piece_from p line l.at = c.piece_after.ensures ∙ ap (λ s. record { left = end_after p line (l.at - s); right = end_after p line (l.at - s + 1) }) c.column-start.ensures.same in
+    let is : c.piece_after.result ≡ piece_from p line l.at =
+    c.piece_after.ensures ∙ ap (λ s. record { left = end_after p line (l.at - s); right = end_after p line (l.at - s + 1) }) c.column-start.ensures.same in
     record {
       low = omega arith;
       pieces = extended-more (piece_from p line) c.column-start.result l.at c.args.gaps.now.items l.gaps.items old c.push.new.self l.auto.at e

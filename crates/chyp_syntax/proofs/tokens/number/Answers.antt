@@ -10,4 +10,5 @@ returns-clause-there c =
     let tokens = c.args.tokens.now in
     let at = c.args.at in
     let default : Token = record { kind = Ident; start = 0; len = 0; value = 0 } in
-    number_there (tokens_from tokens at) (tokens_from tokens (at + 1)) (at, terminal (get_or tokens at default)) (tokens_from-at tokens at default c.in_ok-expect.ensures.within) c.in_ok-expect.ensures.there
+    number_there (tokens_from tokens at) (tokens_from tokens (at + 1)) (at, terminal (get_or tokens at default))
+    (tokens_from-at tokens at default c.in_ok-expect.ensures.within) c.in_ok-expect.ensures.there

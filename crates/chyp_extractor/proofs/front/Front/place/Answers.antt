@@ -61,7 +61,8 @@ returns-clause-parts c =
     let edges = ap (permuted g.edges) c.as_slice-edges.ensures ∙ r.edges in
     let wanted = c.deref-3.ensures.value ∙ c.in_ok-extend_from_slice.ensures.items
     ∙ ap₂ (λ a b. a ++ b) (c.in_ok-wanted.ensures ∙ ap sources_of edges) (c.deref-2.ensures.value ∙ c.in_ok-others.ensures) in
-    parts-pushed c.args.self.now.parts.items c.cross.new.self.parts.items c.push.new.self.items c.in_ok-layer.field-0 (crossing g (live_at g n) (wanted_at g n)) (layer g (placed_after g n) (others_at g n))
+    parts-pushed c.args.self.now.parts.items c.cross.new.self.parts.items c.push.new.self.items c.in_ok-layer.field-0 (crossing g (live_at g n) (wanted_at g n))
+    (layer g (placed_after g n) (others_at g n))
     (c.in_ok-cross.ensures.parts ∙ ap (λ x. morphisms_of c.args.self.now.parts.items ++ x) (ap₂ (crossing g) c.requires.front.live wanted))
     (c.in_ok-layer.ensures ∙ ap₂ (layer g) edges (c.deref-4.ensures.value ∙ c.in_ok-others.ensures))
     c.in_ok-push.ensures.items

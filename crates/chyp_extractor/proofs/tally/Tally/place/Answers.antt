@@ -151,7 +151,8 @@ returns-clause-parts c =
     let e = c.in_ok-cross.ensures.live in
     let t = c.requires.tally.live in
     let others : length (others_at g n) ≡ c.cross.new.self.live - c.len.result = omega arith in
-    measures-pushed c.args.self.now.parts.items c.cross.new.self.parts.items c.push.new.self.items c.of_layer.result (of_crossing (live_at g n) (wanted_at g n)) (of_layer (placed_after g n) (others_at g n))
+    measures-pushed c.args.self.now.parts.items c.cross.new.self.parts.items c.push.new.self.items c.of_layer.result (of_crossing (live_at g n) (wanted_at g n))
+    (of_layer (placed_after g n) (others_at g n))
     (c.in_ok-cross.ensures.parts ∙ ap (λ l. c.args.self.now.parts.items ++ l) (crossing-at g v n (begins c.deref.result.now (live_at g n))
     (ap (λ l. begins l (live_at g n)) (c.deref.ensures.value ∙ c.in_ok-sources.ensures ∙ ap sources_of edges) ∙ begins-counts g v n)))
     (c.of_layer.ensures (others_at g n) others ∙ ap (λ es. kept (of_layer es (others_at g n))) edges)
