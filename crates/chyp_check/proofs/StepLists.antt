@@ -1,5 +1,5 @@
 -- The steps of a rewrite, one by one.
-use Rattle.std.proofs.Common.{◌≡◌, ℕ, zero, suc, ◌+◌, ◌-◌, ◌<◌, ◌≤◌, Bool, true, false, ◌||◌, List, [], ◌∷◌, length, Some, None, slice_get, slice_index_or, refl, sym, ◌∙◌, ap, subst, arith, ◌⊎◌, inl, inr, All}
+use Rattle.std.proofs.Common.{◌≡◌, ℕ, zero, suc, ◌+◌, ◌-◌, ◌<◌, ◌≤◌, List, [], ◌∷◌, length, Some, None, slice_get, slice_index_or, refl, sym, ◌∙◌, ap, subst, arith, ◌⊎◌, inl, inr, All}
 use Rattle.std.proofs.lemmas.Bool.{cases_lt}
 use Rattle.std.proofs.lemmas.List.{length-map}
 use Rattle.chyp_term.specs.Derivation.{IsEquation}
@@ -14,7 +14,6 @@ use Rattle.chyp_simp.specs.Laws.{IsUsable}
 use Rattle.chyp_verdicts.specs.Steps.{AreGood, AreUsable, Move, moves_of, refusal_at, rules_of}
 use Rattle.chyp_verdicts.proofs.OneVerdict.{slice_get-read, some-once}
 use Rattle.chyp_verdicts.proofs.SomeVerdict.{usable-judged}
-use Rattle.chyp_verdicts.proofs.Texts.{get-there}
 
 -- the step at a place goes from the term there to the next one
 pub move-at : (terms : List Morphism) (reasons : List Reason) (k : ℕ) (r : Reason) (s t : Morphism) → slice_get reasons k ≡ Some r → slice_get terms k ≡ Some s → slice_get terms (suc k) ≡ Some t

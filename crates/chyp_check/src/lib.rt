@@ -8,14 +8,18 @@
 //! verdicts these are is defined in `chyp_verdicts`.
 #![tactic(auto)]
 
+mod all;
 mod each;
 mod inputs;
+mod modules;
 mod one;
 mod steps;
 mod verdicts;
 
+pub use all::check_all;
 pub use each::check_each;
 pub use inputs::Inputs;
+pub use modules::Modules;
 pub use one::{Outcome, check_one, check_statement};
 pub use verdicts::Verdicts;
 

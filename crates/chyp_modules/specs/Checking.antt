@@ -38,6 +38,13 @@ pub data HaveStatements (library : Library) : List (List ℕ) → ℕ → Type 0
       → HaveStatements library names n
       → HaveStatements library (name ∷ names) (length statements + n)
 
+-- The main text and the modules that it wants have this many statements together: so many statements are checked for it. Each module
+-- counts once, however often it is imported.
+pub record HasChecks (library : Library) (checks : ℕ) : Type 0 where
+  pub names : List (List ℕ)
+  pub wanted : AreAllWanted library names
+  pub have : HaveStatements library ([] ∷ names) checks
+
 -- nothing is checked; or the statements of the text get these verdicts, and so many statements are checked
 pub data Result : Type 0 where
   too_long : Result

@@ -1,4 +1,4 @@
-use Rattle.std.proofs.Common.{◌+◌, ◌<◌, ◌≤◌, length, arith, rules, refl, sym, subst}
+use Rattle.std.proofs.Common.{◌+◌, ◌<◌, ◌≤◌, length, arith, rules, sym, subst}
 use Rattle.chyp_syntax.proofs.Spans.{is_here, tile_within}
 use Rattle.chyp_verdicts.specs.Texts.{statements_of}
 use Rattle.chyp_check.proofs.Outcomes.{on_err}
