@@ -63,10 +63,10 @@ one-checked text home tokens chunks i verdicts verdict env next statement e h s 
     let ss = statements_of text tokens chunks in
     let at : slice_get ss i ≡ Some statement = get-map (statement_of text tokens) chunks i ∙ ap (option_map (statement_of text tokens)) (is_here chunks i h) ∙ ap Some (sym s) in
     let j : IsJudged (site env statement) verdict =
-    subst (λ i. IsJudged (record { scope = record { words = statement; env = env }; home = []; imported = i }) verdict) imports_nothing
+    subst (λ i. IsJudged (record { scope = record { words = statement; env = env }; home = []; imported = i }) verdict) (imports_nothing NotImport refl)
     (subst (λ x. IsJudged (site_behind x env statement) verdict) e judged) in
     let b : Binds (site env statement) i verdict next =
-    subst (λ x. Binds (record { scope = record { words = statement; env = env }; home = []; imported = x }) i verdict next) imports_nothing
+    subst (λ x. Binds (record { scope = record { words = statement; env = env }; home = []; imported = x }) i verdict next) (imports_nothing NotImport refl)
     (subst (λ x. Binds (site_behind x env statement) i verdict next) e binds) in
     let g : Gets (Stands ss) ([], i) verdict =
     record { site = site env statement; stands = record { main = refl; here = at; makes = front.makes; is = refl }; judged = j } in

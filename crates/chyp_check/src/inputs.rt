@@ -11,6 +11,6 @@ pub struct Inputs<'a> {
     pub chunk: &'a ChunkView<'a>,
     /// What names stand for in front of it.
     pub env: &'a Env,
-    /// The state of its import, which is no module that is there.
+    /// The state of its import.
     pub import: &'a ImportState<'a>,
 }

@@ -3,7 +3,6 @@ ghost use Rattle.std.specs.Prelude.{◌≡◌, ◌≤◌, ◌<◌, ◌+◌, ◌^
 ghost use Rattle.chyp_base.specs.declared.verdict.Verdict.{Verdict};
 ghost use Rattle.chyp_syntax.specs.Sentence.{IsSentence};
 ghost use Rattle.chyp_syntax.specs.Statement.{statement_of};
-ghost use Rattle.chyp_env.specs.ImportState.{IsNotThere};
 ghost use Rattle.chyp_names.specs.Binding.{IsOutcome};
 ghost use Rattle.chyp_names.specs.Elaboration.{IsBody, IsRefused, Passes};
 ghost use Rattle.chyp_names.specs.Typing.{AreTypedAlike};
@@ -45,7 +44,6 @@ fn verdict_of(alloc: Global, ast: &Ast, body: &Body) -> Result<Verdict, NoMemory
 
 // What a sentence means where it stands.
 fn elaborated(alloc: Global, inputs: &Inputs<'_>, ast: &Ast) -> Result<Body, ElabError>
-    requires import { IsNotThere (site_at inputs.now).imported }
     requires sentence { IsSentence inputs.now.chunk.now (statement_of ast.now) }
     ensures passes { OnOk result (Passes (site_at inputs.now) (statement_of ast.now)) }
     ensures body { IfOk result (IsBody (site_at inputs.now) (statement_of ast.now)) }
@@ -59,7 +57,6 @@ fn elaborated(alloc: Global, inputs: &Inputs<'_>, ast: &Ast) -> Result<Body, Ela
 
 // The verdict of a sentence, with its body.
 fn judge_sentence(alloc: Global, inputs: &Inputs<'_>, ast: &Ast) -> Result<Outcome, NoMemory>
-    requires import { IsNotThere (site_at inputs.now).imported }
     requires sentence { IsSentence inputs.now.chunk.now (statement_of ast.now) }
     ensures judged { IfOk result (λ outcome. IsJudged (site_at inputs.now) outcome.verdict) }
     ensures outcome { IfOk result (λ outcome. IsOutcome (site_at inputs.now) outcome.body outcome.verdict) }
@@ -81,7 +78,6 @@ fn judge_sentence(alloc: Global, inputs: &Inputs<'_>, ast: &Ast) -> Result<Outco
 
 /// The verdict of a statement, with its body.
 pub(crate) fn judge_statement(alloc: Global, inputs: &Inputs<'_>) -> Result<Outcome, NoMemory>
-    requires { IsNotThere (site_at inputs.now).imported }
     ensures judged { IfOk result (λ outcome. IsJudged (site_at inputs.now) outcome.verdict) }
     ensures outcome { IfOk result (λ outcome. IsOutcome (site_at inputs.now) outcome.body outcome.verdict) }
     ensures typed { IfOk result (λ outcome. IfSome outcome.body (λ body. AreTypedAlike body.terms)) }
@@ -107,7 +103,6 @@ pub fn check_statement<G: Ledger>(
     inputs: &Inputs<'_>,
     steps: &mut Steps<G>,
 ) -> Result<Outcome, NoMemory>
-    requires { IsNotThere (site_at inputs.now).imported }
     ensures judged { IfOk result (λ outcome. IsJudged (site_at inputs.now) outcome.verdict) }
     ensures outcome { IfOk result (λ outcome. IsOutcome (site_at inputs.now) outcome.body outcome.verdict) }
     ensures typed { IfOk result (λ outcome. IfSome outcome.body (λ body. AreTypedAlike body.terms)) }
@@ -129,7 +124,6 @@ pub fn check_one<G: Ledger>(
     inputs: &Inputs<'_>,
     steps: &mut Steps<G>,
 ) -> Result<Verdict, NoMemory>
-    requires { IsNotThere (site_at inputs.now).imported }
     ensures verdict { IfOk result (λ verdict. IsJudged (site_at inputs.now) verdict) }
     ensures one { OnOk result (steps.new ≡ steps.old + 1) }
     ensures rises { steps.old ≤ steps.new }

@@ -1,9 +1,10 @@
 -- What an import binds of a module's environment.
-use Rattle.std.specs.Prelude.{ℕ, Bool, false, not, ◌&&◌, ◌==◌, List, ◌++◌, map, find, codes, Option, None, Some, option_map}
+use Rattle.std.specs.Prelude.{◌≡◌, ℕ, Bool, false, not, ◌&&◌, ◌==◌, List, ◌++◌, map, find, codes, Contains, Option, None, Some, option_map}
 use Rattle.std.specs.List.{filter}
 use Rattle.std.specs.Option.{option_map_or}
 use Rattle.std.specs.Str.{bytes_eq}
 use Rattle.chyp_env.specs.Environment.{Binding, binding_of, is_bound}
+use Rattle.chyp_env.specs.Site.{Imported, there}
 
 -- a name as an import binds it: behind the prefix and a dot, if there is a prefix
 abbrev pub prefixed : Option (List ℕ) → List ℕ → List ℕ
@@ -32,3 +33,8 @@ first_clash env bindings = option_map (λ binding. binding.name) (find (clashes 
 -- the bindings whose names aren't bound already; the others are passed over
 abbrev pub new_in : List Binding → List Binding → List Binding
 new_in env bindings = filter (λ binding. not (is_bound env binding.name)) bindings
+
+-- bindings of one origin have one sense, in an environment and in that of the module which is imported
+abbrev pub AgreeOnOrigins : List Binding → Imported → Type 0
+AgreeOnOrigins env (there other) = (a b : Binding) → Contains env a → Contains other b → a.origin ≡ b.origin → a.sense ≡ b.sense
+AgreeOnOrigins env _ = Unit {0}

@@ -15,8 +15,3 @@ imported_of (Module env) = there env.now
 -- a statement in the module of this name, where its import is in this state
 abbrev pub site_of : Scope → List ℕ → ImportState → Site
 site_of scope home import' = record { scope = scope; home = home; imported = imported_of import' }
-
--- it is no module that is there (modules aren't read yet)
-abbrev pub IsNotThere : Imported → Type 0
-IsNotThere (there env) = ⊥
-IsNotThere _ = Unit {0}

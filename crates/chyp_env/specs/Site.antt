@@ -1,5 +1,7 @@
 -- Where a statement stands.
-use Rattle.std.specs.Prelude.{ℕ, List}
+use Rattle.std.specs.Prelude.{◌≡◌, ℕ, List, Option}
+use Rattle.chyp_syntax.specs.Sentence.{IsSentence}
+use Rattle.chyp_syntax.specs.Statement.{inclusion}
 use Rattle.chyp_env.specs.Environment.{Binding}
 use Rattle.chyp_env.specs.Scope.{Scope}
 
@@ -17,3 +19,8 @@ pub record Site : Type 0 where
   pub scope : Scope
   pub home : List ℕ
   pub imported : Imported
+
+-- the statement imports nothing, or it is an import
+pub data IsImportState (site : Site) : Type 0 where
+  no_import : site.imported ≡ nothing → IsImportState site
+  an_import : {word : ℕ} {as_word : Option ℕ} → IsSentence site.scope.words (inclusion word as_word) → IsImportState site

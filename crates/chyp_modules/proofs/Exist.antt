@@ -12,7 +12,7 @@ use Rattle.chyp_modules.specs.Modules.{Makes, at_start, one_more, Stands, stands
 use Rattle.chyp_modules.specs.Laws.{ReachesOnly}
 use Rattle.chyp_verdicts.proofs.Known.{Known}
 use Rattle.chyp_verdicts.proofs.Sites.{some-binds}
-use Rattle.chyp_verdicts.specs.Sites.{IsImportState, no_import as alone, an_import}
+use Rattle.chyp_env.specs.Site.{IsImportState, no_import as alone, an_import}
 use Rattle.chyp_verdicts.proofs.Texts.{get-there}
 use Rattle.chyp_modules.proofs.Reaching.{SomeImport, import-or-not, reaches-only-next, reaches-or-not, reaches-without, statements-there, without, without-shorter}
 use Rattle.chyp_modules.proofs.Senses.{makes-sound}
@@ -23,7 +23,7 @@ pub record SomeEnv (P : List Binding → Type 0) : Type 0 where
   pub is : P env
 
 -- what is found is imported by an import
-import-state : (library : Library) (s : Site) → Finds library s.scope.words s.imported → IsImportState s
+pub import-state : (library : Library) (s : Site) → Finds library s.scope.words s.imported → IsImportState s
 import-state library s f = go s.scope.words s.imported refl refl f
   where
     go : (words : List Word) (i : Imported) → words ≡ s.scope.words → i ≡ s.imported → Finds library words i → IsImportState s

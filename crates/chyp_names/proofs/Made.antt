@@ -1,5 +1,5 @@
 -- The names and the terms that a statement makes.
-use Rattle.std.proofs.Common.{◌≡◌, ℕ, ◌+◌, ◌<◌, ◌≤◌, List, [], ◌∷◌, ◌++◌, map, length, take, drop, slice_index_or, All, Option, None, Some, refl, sym, ap, subst, ◌∙◌, Bool, true, false, ◌&&◌, true≢false, is_some, unwrap_or, cond, ◌==◌, append_assoc}
+use Rattle.std.proofs.Common.{◌≡◌, ℕ, ◌+◌, ◌<◌, ◌≤◌, List, [], ◌∷◌, ◌++◌, map, length, take, drop, arith, slice_index_or, All, Option, None, Some, refl, sym, ap, subst, ◌∙◌, Bool, true, false, ◌&&◌, true≢false, is_some, unwrap_or, cond, ◌==◌, append_assoc}
 use Rattle.std.specs.Str.{IsUtf8}
 use Rattle.std.proofs.lemmas.List.Elements.{All-head, All-tail}
 use Rattle.chyp_lex.specs.declared.token.TokenKind.{TokenKind}
@@ -148,3 +148,29 @@ goals_more scope first terms all steps k step within is so_far next =
 pub in_module : (home name : List ℕ) → false ≡ (length home == 0) → home ++ 47 ∷ name ≡ generator_name home name
 in_module [] name e = absurd (true≢false (sym e))
 in_module (b ∷ home) name e = sym (append_assoc (b ∷ home) (47 ∷ []) name)
+
+-- the prefix of an import is its last word, an identifier
+abbrev EndsAs : StatementTree → List NumberedToken → Type 0
+EndsAs (inclusion word (Some prefix)) (a ∷ b ∷ c ∷ last ∷ []) = (last.0 ≡ prefix) × (kind_of last ≡ Ident)
+EndsAs (inclusion word (Some prefix)) _ = ⊥
+EndsAs _ _ = Unit {0}
+
+ends_as : {tokens : List NumberedToken} {tree : StatementTree} → IsStatement tokens tree → EndsAs tree tokens
+ends_as (is_gen w n c d a e) = tt
+ends_as (is_let w n e t) = tt
+ends_as (is_rule equals w n c l e r) = tt
+ends_as (is_rewrite w n c t s) = tt
+ends_as (is_import w n) = tt
+ends_as (is_import_as w n a p) = (refl, p)
+ends_as (is_show w n) = tt
+
+-- so it is UTF-8
+pub prefix_spelled : (words : List Word) (word prefix : ℕ) → AreSpelled words → IsSentence words (inclusion word (Some prefix)) → IsUtf8 (bytes_at words prefix)
+prefix_spelled [] word prefix spelled s = absurd (ends_as s.statement)
+prefix_spelled (a ∷ []) word prefix spelled s = absurd (ends_as s.statement)
+prefix_spelled (a ∷ b ∷ []) word prefix spelled s = absurd (ends_as s.statement)
+prefix_spelled (a ∷ b ∷ c ∷ []) word prefix spelled s = absurd (ends_as s.statement)
+prefix_spelled (a ∷ b ∷ c ∷ d ∷ []) word prefix spelled s =
+    let ends = ends_as s.statement in
+    subst (λ n. IsUtf8 (bytes_at (a ∷ b ∷ c ∷ d ∷ []) n)) ends.0 (spelled 3 d (omega arith) ends.1)
+prefix_spelled (a ∷ b ∷ c ∷ d ∷ e ∷ rest) word prefix spelled s = absurd (ends_as s.statement)

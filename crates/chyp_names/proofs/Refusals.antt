@@ -11,11 +11,11 @@ use Rattle.chyp_syntax.specs.declared.term.TermAst.{TermAst}
 use Rattle.chyp_syntax.specs.Statement.{StatementTree, generator, definition, rule, rewrite, inclusion, showing, statement_of}
 use Rattle.chyp_syntax.specs.Step.{step_of}
 use Rattle.chyp_syntax.specs.Term.{tree_of}
-use Rattle.chyp_base.specs.declared.verdict.Verdict.TheVariants.{NotBuilt, NoModule, Cycle}
+use Rattle.chyp_base.specs.declared.verdict.Verdict.TheVariants.{NoModule, Cycle}
 use Rattle.chyp_env.specs.declared.import_state.ImportState.{ImportState}
-use Rattle.chyp_env.specs.declared.import_state.ImportState.TheVariants.{NotImport, Absent, OnCycle, Module}
+use Rattle.chyp_env.specs.declared.import_state.ImportState.TheVariants.{NotImport, Absent, OnCycle}
 use Rattle.chyp_env.specs.Environment.{Binding}
-use Rattle.chyp_env.specs.ImportState.{IsNotThere, imported_of}
+use Rattle.chyp_env.specs.ImportState.{imported_of}
 use Rattle.chyp_env.specs.Scope.{is_declared}
 use Rattle.chyp_env.specs.Site.{Site}
 use Rattle.chyp_names.specs.Elaboration.{IsRefused, is_import, import_fault, fault_of_module, prefix_at, has_hole, at_name, mistyped, unproved, terms_of}
@@ -43,42 +43,6 @@ pub hole_of_rewrite : (ast : Ast) (name : ℕ) (first : TermAst) (steps items : 
     → list_any (λ (step : StepAst). is_none step.goal) items ≡ has_hole (statement_of ast)
 hole_of_rewrite ast name first steps items is same =
     ap (list_any (λ (step : StepAst). is_none step.goal)) same ∙ sym (holes steps) ∙ ap (λ a. has_hole (statement_of a)) (sym is)
-
--- what is wrong with an import in each of the states in which its module isn't there
-pub at_not_import : (state : ImportState) → state ≡ NotImport → (env : List Binding) (prefix : Option (List ℕ)) → fault_of_module env (imported_of state) prefix ≡ Some NotBuilt
-unfolding imported_of
-at_not_import state is env prefix = rw is refl
-
-pub at_absent : (state : ImportState) → state ≡ Absent → (env : List Binding) (prefix : Option (List ℕ)) → fault_of_module env (imported_of state) prefix ≡ Some (NoModule 1)
-unfolding imported_of
-at_absent state is env prefix = rw is refl
-
-pub at_cycle : (state : ImportState) → state ≡ OnCycle → (env : List Binding) (prefix : Option (List ℕ)) → fault_of_module env (imported_of state) prefix ≡ Some (Cycle 1)
-unfolding imported_of
-at_cycle state is env prefix = rw is refl
-
-pub no_module : (state : ImportState) (env : Bor (List Binding)) → state ≡ Module env → IsNotThere (imported_of state) → ⊥
-unfolding imported_of
-no_module state env is none = subst (λ s. IsNotThere (imported_of s)) is none
-
--- an import is refused for the state of its module
-pub import-refused : (site : Site) (tree : StatementTree) (verdict : Verdict) → ((env : List Binding) (prefix : Option (List ℕ)) → fault_of_module env site.imported prefix ≡ Some verdict)
-    → is_import tree ≡ true → import_fault site tree ≡ Some verdict
-import-refused site (inclusion imported prefix) verdict e i = e site.scope.env (prefix_at site.scope prefix)
-import-refused site (generator name dom cod) verdict e i = absurd (false≢true i)
-import-refused site (definition name tree) verdict e i = absurd (false≢true i)
-import-refused site (rule name left equals right) verdict e i = absurd (false≢true i)
-import-refused site (rewrite name first steps) verdict e i = absurd (false≢true i)
-import-refused site (showing name) verdict e i = absurd (false≢true i)
-
--- what is no import is in order as one
-pub import-in_order : (site : Site) (tree : StatementTree) → is_import tree ≡ false → import_fault site tree ≡ None
-import-in_order site (inclusion imported prefix) i = absurd (false≢true (sym i))
-import-in_order site (generator name dom cod) i = refl
-import-in_order site (definition name tree) i = refl
-import-in_order site (rule name left equals right) i = refl
-import-in_order site (rewrite name first steps) i = refl
-import-in_order site (showing name) i = refl
 
 -- what refuses a statement by its terms refuses it where it stands
 pub refused_by_terms : (site : Site) (tree : StatementTree) (verdict : Verdict) → is_declared site.scope ≡ false → import_fault site tree ≡ None

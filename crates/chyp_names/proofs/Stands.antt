@@ -16,7 +16,6 @@ use Rattle.chyp_env.specs.Environment.{Sense, Binding, binding_of, is_bound}
 use Rattle.chyp_env.specs.Expansion.{plain_wires}
 use Rattle.chyp_term.specs.Limits.{most_ports}
 use Rattle.chyp_env.specs.Site.{Imported, there, Site}
-use Rattle.chyp_env.specs.ImportState.{IsNotThere}
 use Rattle.chyp_syntax.specs.Words.{Word, keyword_in}
 use Rattle.chyp_env.specs.Sound.{IsSoundSense}
 use Rattle.chyp_names.specs.declared.body.Body.{Body}
@@ -196,7 +195,7 @@ module _ (home : List ℕ) (words : List Word) (env : List Binding) (imported : 
   sense_binds number sense keyword terms new (Ok x) k t same free is = rw (is, same, k, t) (anew declared free fit.stands)
   sense_binds number sense keyword terms new (Err e) k t same free is = tt
 
--- what isn't there isn't taken in
-pub not_taken : (imported : Imported) (verdict : Verdict) → IsNotThere imported → ¬ TakesIn imported verdict
-not_taken (there env) verdict none = absurd none
-not_taken _ verdict none = λ takes. takes
+-- only what is accepted takes in
+pub takes_accepted : (imported : Imported) (verdict : Verdict) → TakesIn imported verdict → verdict ≡ Accepted
+takes_accepted (there env) Accepted takes = refl
+takes_accepted _ _ takes = absurd takes

@@ -1,6 +1,7 @@
 // What statements bind.
 ghost use Rattle.std.specs.Prelude.{◌≡◌, ◌<◌, ◌++◌, ◌∷◌, [], ℕ, List, Option, false, length, IfOk, IfSome, IfNone, IsUtf8, Some, OnOk, OnErr, option_copied};
 ghost use Rattle.chyp_base.specs.declared.verdict.Verdict.{Verdict};
+ghost use Rattle.chyp_base.specs.declared.verdict.Verdict.TheVariants.{Accepted};
 ghost use Rattle.chyp_lex.specs.declared.token.TokenKind.{TokenKind};
 ghost use Rattle.chyp_lex.specs.declared.token.TokenKind.TheVariants.{WordGen};
 ghost use Rattle.chyp_syntax.specs.Heading.{declared_name};
@@ -8,14 +9,16 @@ ghost use Rattle.chyp_term.specs.Equation.{equation_of};
 ghost use Rattle.chyp_term.specs.Term.{morphism_of};
 ghost use Rattle.chyp_env.specs.Entry.{sense_of};
 ghost use Rattle.chyp_env.specs.Environment.{is_bound};
-ghost use Rattle.chyp_env.specs.ImportState.{IsNotThere, imported_of, site_of};
-ghost use Rattle.chyp_env.specs.Site.{Imported};
+ghost use Rattle.chyp_env.specs.Import.{AgreeOnOrigins};
+ghost use Rattle.chyp_env.specs.ImportState.{imported_of, site_of};
+ghost use Rattle.chyp_env.specs.Site.{Imported, IsImportState, there};
 ghost use Rattle.chyp_env.specs.Sound.{IsSoundSense};
-ghost use Rattle.chyp_names.specs.Binding.{Binds, IsOutcome};
+ghost use Rattle.chyp_names.specs.Binding.{Binds, IsOutcome, TakesIn};
 ghost use Rattle.chyp_names.specs.Outcome.{HasTermsFor, IsGenerator, accepted_sense, first_of, generator_sense, last_of, refused_sense, sense_for, terms_in};
 ghost use Rattle.chyp_names.specs.Typing.{AreTypedAlike};
 
 use crate::Body;
+use crate::imports::bind_import;
 use chyp_base::{Name, NoMemory, Verdict};
 use chyp_env::{ChunkView, Entry, Env, ImportState, KnownTerm, Meaning, Origin};
 use chyp_lex::TokenKind;
@@ -156,11 +159,24 @@ fn spelled(alloc: Global, bytes: &[u8]) -> Result<Name, NoMemory>
     }
 }
 
+// The environment that an accepted import takes in, None for any other statement.
+#[tactic(auto, using(crate::proofs::Stands::takes_accepted), unfolding(chyp_env::specs::ImportState::imported_of))]
+fn taken_in<'a>(import: &ImportState<'a>, verdict: &Verdict) -> Option<&'a Env>
+    ensures there { IfSome result (λ imported. imported_of import.now ≡ there imported.now) }
+    ensures accepted { IfSome result (λ imported. verdict.now ≡ Accepted) }
+    ensures none { IfNone result (¬ TakesIn (imported_of import.now) verdict.now) }
+{
+    match import {
+        ImportState::Module(imported) if matches!(verdict, Verdict::Accepted) => Some(imported),
+        _ => None,
+    }
+}
+
 // The name that a statement binds, None where it binds nothing.
 fn unbound<'a>(chunk: &ChunkView<'a>, env: &Env) -> Option<&'a [u8]>
     ensures name { IfSome result (λ name. declared_name chunk.now ≡ Some name.now) }
     ensures free { IfSome result (λ name. is_bound env.now name.now ≡ false) }
-    ensures none { IfNone result ((home : List ℕ) (imported : Imported) (number : ℕ) (verdict : Verdict) → IsNotThere imported
+    ensures none { IfNone result ((home : List ℕ) (imported : Imported) (number : ℕ) (verdict : Verdict) → ¬ TakesIn imported verdict
         → Binds (record { scope = record { words = chunk.now; env = env.now }; home = home; imported = imported }) number verdict env.now) }
 {
     let name = chunk.declared_name()?;
@@ -197,18 +213,19 @@ fn bind_name(
     })
 }
 
-/// Binds the name of a statement that has this number in the module of this name, once it has its
-/// verdict. `import` is the state of its import, which is no module that is there, and `body` what it
-/// means where nothing refuses it, with terms that are typed and have one type.
+/// Binds the names of a statement that has this number in the module of this name, once it has its
+/// verdict. `import` is the state of its import, and `body` what it means where nothing refuses it, with
+/// terms that are typed and have one type. Where the module is there, what it has from a statement means
+/// what the environment has from it.
 ///
 /// An accepted `gen` is bound as a generator, an accepted `let` as its term, an accepted `rule` and a
 /// proved `rewrite` as laws from the first term to the last, any other `rewrite` as one that is not
-/// proved, and any other statement as broken. Nothing is bound where the statement declares no name, or
-/// one that is bound already.
+/// proved, and any other statement as broken. An accepted `import` binds each name of its module, behind
+/// its prefix, that is not bound yet. Nothing else is bound: no name that is bound already.
 ///
 /// # Errors
 ///
-/// `NoMemory` where the binding can't be kept; nothing is bound then.
+/// `NoMemory` where what is bound can't be kept; nothing is bound then.
 pub fn bind(
     env: &mut Env,
     module: &Name,
@@ -218,12 +235,16 @@ pub fn bind(
     body: Option<&Body>,
     verdict: &Verdict,
 ) -> Result<(), NoMemory>
-    requires import { IsNotThere (imported_of import.now) }
+    requires state { IsImportState (site_of (record { words = chunk.now; env = env.old }) «module».now import.now) }
+    requires origins { AgreeOnOrigins env.old (imported_of import.now) }
     requires outcome { IsOutcome (site_of (record { words = chunk.now; env = env.old }) «module».now import.now) (option_copied body) verdict.now }
     requires typed { IfSome (option_copied body) (λ body. AreTypedAlike body.terms) }
     ensures ok { OnOk result (Binds (site_of (record { words = chunk.now; env = env.old }) «module».now import.now) index verdict.now env.new) }
     ensures err { OnErr result (env.new ≡ env.old) }
 {
+    if let Some(imported) = taken_in(import, verdict) {
+        return bind_import(env, chunk, imported);
+    }
     let Some(name) = unbound(chunk, env) else {
         return Ok(());
     };
@@ -234,12 +255,12 @@ pub fn bind(
     bind_name(env, module, index, name, meaning)
 }
 
-/// Binds the name of a statement as [`bind`] does, and moves the terms of its body into the environment
+/// Binds the names of a statement as [`bind`] does, and moves the terms of its body into the environment
 /// in place of sharing them.
 ///
 /// # Errors
 ///
-/// `NoMemory` where the binding can't be kept; nothing is bound then, and the body is dropped.
+/// `NoMemory` where what is bound can't be kept; nothing is bound then, and the body is dropped.
 pub fn bind_owned(
     env: &mut Env,
     module: &Name,
@@ -249,12 +270,16 @@ pub fn bind_owned(
     body: Option<Body>,
     verdict: &Verdict,
 ) -> Result<(), NoMemory>
-    requires import { IsNotThere (imported_of import.now) }
+    requires state { IsImportState (site_of (record { words = chunk.now; env = env.old }) «module».now import.now) }
+    requires origins { AgreeOnOrigins env.old (imported_of import.now) }
     requires outcome { IsOutcome (site_of (record { words = chunk.now; env = env.old }) «module».now import.now) body verdict.now }
     requires typed { IfSome body (λ body. AreTypedAlike body.terms) }
     ensures ok { OnOk result (Binds (site_of (record { words = chunk.now; env = env.old }) «module».now import.now) index verdict.now env.new) }
     ensures err { OnErr result (env.new ≡ env.old) }
 {
+    if let Some(imported) = taken_in(import, verdict) {
+        return bind_import(env, chunk, imported);
+    }
     let Some(name) = unbound(chunk, env) else {
         return Ok(());
     };

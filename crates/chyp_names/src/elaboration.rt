@@ -1,13 +1,12 @@
 // What a statement means, or why it is refused.
-ghost use Rattle.std.specs.Prelude.{◌≡◌, ℕ, List, [], Option, false, IfOk, IfSome, IfNone, OnOk, Err, None, Some, is_none};
+ghost use Rattle.std.specs.Prelude.{◌≡◌, ℕ, List, [], false, IfOk, OnOk, Err, None, is_none};
 ghost use Rattle.std.specs.List.{list_any};
 ghost use Rattle.chyp_base.specs.declared.verdict.Verdict.{Verdict};
 ghost use Rattle.chyp_syntax.specs.Sentence.{IsSentence};
 ghost use Rattle.chyp_syntax.specs.Statement.{statement_of};
-ghost use Rattle.chyp_env.specs.Environment.{Binding};
-ghost use Rattle.chyp_env.specs.ImportState.{IsNotThere, imported_of, site_of};
+ghost use Rattle.chyp_env.specs.ImportState.{site_of};
 ghost use Rattle.chyp_env.specs.Scope.{is_declared};
-ghost use Rattle.chyp_names.specs.Elaboration.{IsBody, IsRefused, Passes, fault_of_module, has_hole, import_fault, is_import, steps_at, terms_in, tests_at};
+ghost use Rattle.chyp_names.specs.Elaboration.{IsBody, IsRefused, Passes, has_hole, import_fault, steps_at, terms_in, tests_at};
 ghost use Rattle.chyp_names.specs.Limits.{AreWithinLimits};
 ghost use Rattle.chyp_names.specs.Naming.{first_fault, first_unproved};
 ghost use Rattle.chyp_names.specs.Refusal.{IsRefusedByTerms};
@@ -15,6 +14,7 @@ ghost use Rattle.chyp_term.specs.Step.{reasons_of};
 ghost use Rattle.chyp_env.specs.Typing.{AllHold, FailsFirst};
 ghost use Rattle.chyp_names.specs.Typing.{AreTypedAlike};
 
+use crate::imports::import_fault;
 use crate::limits::is_small;
 use crate::naming::{first_fault, first_unproved};
 use crate::steps::steps;
@@ -25,42 +25,31 @@ use chyp_env::{ImportState, KnownTerms, Scope, TypeFault};
 use chyp_syntax::{Ast, StepAst};
 use std::alloc::Global;
 
-// Whether the statement is an import.
-fn is_import(ast: &Ast) -> bool
-    ensures { result ≡ is_import (statement_of ast.now) }
-{
-    matches!(ast, Ast::ImportDecl { .. })
-}
-
-// What is wrong with an import in this state.
-fn import_fault(import: &ImportState<'_>) -> Verdict
-    requires { IsNotThere (imported_of import.now) }
-    ensures { (env : List Binding) (prefix : Option (List ℕ)) → fault_of_module env (imported_of import.now) prefix ≡ Some result }
-{
-    match import {
-        ImportState::NotImport => Verdict::NotBuilt,
-        ImportState::Absent => Verdict::NoModule { token: 1 },
-        ImportState::OnCycle => Verdict::Cycle { token: 1 },
-        ImportState::Module(_) => unreachable!(),
-    }
-}
-
-// Why names refuse the statement: the one that it would bind, or one that it uses. An import is refused
-// before its names are looked at.
-fn refused_by_names(ast: &Ast, scope: &Scope<'_>, import: &ImportState<'_>) -> Option<Verdict>
-    requires { IsNotThere (imported_of import.now) }
-    ensures some { (home : List ℕ) → IfSome result (IsRefused (site_of scope.now home import.now) (statement_of ast.now)) }
-    ensures fresh { IfNone result (is_declared scope.now ≡ false) }
-    ensures fits { (home : List ℕ) → IfNone result (import_fault (site_of scope.now home import.now) (statement_of ast.now) ≡ None) }
-    ensures known { IfNone result (first_fault scope.now (statement_of ast.now) ≡ None) }
+// Refuses a statement by its names: the one that it would bind, those that it would import, or one that it
+// uses.
+fn check_names(
+    alloc: Global,
+    ast: &Ast,
+    scope: &Scope<'_>,
+    import: &ImportState<'_>,
+) -> Result<(), ElabError>
+    requires sentence { IsSentence scope.now.words (statement_of ast.now) }
+    ensures fresh { OnOk result (is_declared scope.now ≡ false) }
+    ensures fits { OnOk result ((home : List ℕ) → import_fault (site_of scope.now home import.now) (statement_of ast.now) ≡ None) }
+    ensures known { OnOk result (first_fault scope.now (statement_of ast.now) ≡ None) }
+    ensures refused { (verdict : Verdict) (home : List ℕ) → result ≡ Err (ElabError.Refused verdict) →
+        IsRefused (site_of scope.now home import.now) (statement_of ast.now) verdict }
 {
     if scope.is_declared() {
-        return Some(Verdict::Declared { token: 1 });
+        return Err(ElabError::Refused(Verdict::Declared { token: 1 }));
     }
-    if is_import(ast) {
-        return Some(import_fault(import));
+    if let Some(verdict) = import_fault(alloc, ast, scope, import)? {
+        return Err(ElabError::Refused(verdict));
     }
-    first_fault(ast, scope)
+    match first_fault(ast, scope) {
+        Some(verdict) => Err(ElabError::Refused(verdict)),
+        None => Ok(()),
+    }
 }
 
 // Whether one of the steps is a hole.
@@ -135,7 +124,7 @@ fn made(alloc: Global, module: &Name, ast: &Ast, scope: &Scope<'_>) -> Result<Bo
 
 /// What a statement means where names stand for what they do in its scope, in the module of this name,
 /// which is empty for the main text. `ast` is the tree of the statement, and `import` the state of its
-/// import, which is no module that is there.
+/// import.
 ///
 /// The terms of the body are typed, and all have one type. Their types and their measures are found
 /// here, and go with them from then on. A statement that is too big is refused before any of its terms
@@ -144,9 +133,10 @@ fn made(alloc: Global, module: &Name, ast: &Ast, scope: &Scope<'_>) -> Result<Bo
 /// # Errors
 ///
 /// `Refused` exactly where something refuses the statement, with the verdict of the first of these
-/// points that holds: its name is bound already; it is an import, which gets `not-built` where nothing is
-/// known of its module; a name that it uses is at fault; it passes a limit; its terms have no types that agree; it rests on a rewrite that
-/// is not proved. `NoMemory` where there is no memory for the body.
+/// points that holds: its name is bound already; it is an import of a module that is absent, that reaches
+/// itself, or that would bind a name to a second statement; a name that it uses is at fault; it passes a
+/// limit; its terms have no types that agree; it rests on a rewrite that is not proved. `NoMemory` where
+/// there is no memory for the body, or for a name that an import would bind.
 pub fn elaborate(
     alloc: Global,
     module: &Name,
@@ -155,16 +145,13 @@ pub fn elaborate(
     import: &ImportState<'_>,
 ) -> Result<Body, ElabError>
     requires sentence { IsSentence scope.now.words (statement_of ast.now) }
-    requires import { IsNotThere (imported_of import.now) }
     ensures passes { OnOk result (Passes (site_of scope.now «module».now import.now) (statement_of ast.now)) }
     ensures body { IfOk result (IsBody (site_of scope.now «module».now import.now) (statement_of ast.now)) }
     ensures typed { IfOk result (λ body. AreTypedAlike body.terms) }
     ensures refused { (verdict : Verdict) → result ≡ Err (ElabError.Refused verdict) →
         IsRefused (site_of scope.now «module».now import.now) (statement_of ast.now) verdict }
 {
-    if let Some(verdict) = refused_by_names(ast, scope, import) {
-        return Err(ElabError::Refused(verdict));
-    }
+    check_names(alloc, ast, scope, import)?;
     if !is_small(ast, scope) {
         return Err(ElabError::Refused(Verdict::TooBig));
     }

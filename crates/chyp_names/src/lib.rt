@@ -12,6 +12,7 @@ mod binding;
 mod body;
 mod elab_error;
 mod elaboration;
+mod imports;
 mod limits;
 mod naming;
 mod steps;

@@ -4,11 +4,11 @@ use Rattle.chyp_base.specs.declared.verdict.Verdict.{Verdict}
 use Rattle.chyp_base.specs.declared.verdict.Verdict.TheVariants.{Accepted}
 use Rattle.chyp_syntax.specs.Heading.{declared_name}
 use Rattle.chyp_env.specs.Environment.{Binding, is_bound}
-use Rattle.chyp_env.specs.Site.{Imported, there, Site}
+use Rattle.chyp_env.specs.Site.{Imported, there, Site, IsImportState, no_import, an_import}
 use Rattle.chyp_env.specs.Sound.{IsSound}
 use Rattle.chyp_names.specs.Binding.{Binds, TakesIn, nothing, again, anew, imports}
 use Rattle.chyp_verdicts.specs.Judged.{IsJudged}
-use Rattle.chyp_verdicts.specs.Sites.{EachStatementHasOneVerdict, EachStatementMakesOneEnvironment, IsImportState, no_import, an_import}
+use Rattle.chyp_verdicts.specs.Sites.{EachStatementHasOneVerdict, EachStatementMakesOneEnvironment}
 use Rattle.chyp_verdicts.proofs.Known.{Known}
 use Rattle.chyp_verdicts.proofs.OneBinding.{binds-once}
 use Rattle.chyp_verdicts.proofs.OneVerdict.{judged-once}

@@ -15,7 +15,7 @@ use Rattle.chyp_verdicts.proofs.Known.{Known}
 use Rattle.chyp_verdicts.proofs.OneBinding.{binds-once}
 use Rattle.chyp_verdicts.proofs.OneVerdict.{judged-once, some-once}
 use Rattle.chyp_verdicts.proofs.Sites.{some-binds}
-use Rattle.chyp_verdicts.specs.Sites.{no_import}
+use Rattle.chyp_env.specs.Site.{no_import}
 use Rattle.chyp_verdicts.proofs.SomeVerdict.{some-verdict}
 use Rattle.chyp_verdicts.proofs.Sound.{binds-sound}
 

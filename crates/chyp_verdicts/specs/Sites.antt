@@ -1,10 +1,8 @@
 -- What holds of each statement, wherever it stands.
-use Rattle.std.specs.Prelude.{◌≡◌, ℕ, List, Option}
+use Rattle.std.specs.Prelude.{◌≡◌, ℕ, List}
 use Rattle.chyp_base.specs.declared.verdict.Verdict.{Verdict}
-use Rattle.chyp_syntax.specs.Sentence.{IsSentence}
-use Rattle.chyp_syntax.specs.Statement.{inclusion}
 use Rattle.chyp_env.specs.Environment.{Binding}
-use Rattle.chyp_env.specs.Site.{Site, nothing}
+use Rattle.chyp_env.specs.Site.{Site, IsImportState}
 use Rattle.chyp_env.specs.Sound.{IsSound}
 use Rattle.chyp_names.specs.Binding.{Binds}
 use Rattle.chyp_verdicts.specs.Judged.{IsJudged}
@@ -18,11 +16,6 @@ pub record HasOneVerdict (site : Site) : Type 0 where
 -- so it is in each module, behind whatever makes an environment, and in each state of an import
 abbrev pub EachStatementHasOneVerdict : Type 0
 EachStatementHasOneVerdict = (site : Site) → IsSound site.scope.env → HasOneVerdict site
-
--- the statement imports nothing, or it is an import
-pub data IsImportState (site : Site) : Type 0 where
-  no_import : site.imported ≡ nothing → IsImportState site
-  an_import : {word : ℕ} {as_word : Option ℕ} → IsSentence site.scope.words (inclusion word as_word) → IsImportState site
 
 -- with this number and this verdict, the statement makes exactly one environment
 pub record MakesOneEnvironment (site : Site) (number : ℕ) (verdict : Verdict) : Type 0 where

@@ -1,7 +1,10 @@
-use Rattle.std.proofs.Common.{refl}
+use Rattle.std.proofs.Common.{[], refl}
 use Rattle.chyp_env.specs.declared.import_state.ImportState.TheVariants.{NotImport}
-use Rattle.chyp_env.proofs.Imports.{nothing_there}
+use Rattle.chyp_env.proofs.Imports.{agrees_with_nothing, alone}
 use Rattle.chyp_text_tests.proofs.statements.a_name_that_is_not_bound_refuses_the_statement.Goals as goal
 
-pub bind-requires-clause-import : goal.bind-requires-clause-import
-bind-requires-clause-import c d = nothing_there NotImport refl
+pub bind-requires-clause-state : goal.bind-requires-clause-state
+bind-requires-clause-state c d = alone _ _ NotImport refl
+
+pub bind-requires-clause-origins : goal.bind-requires-clause-origins
+bind-requires-clause-origins c d = agrees_with_nothing _ NotImport refl
