@@ -1,12 +1,12 @@
 // Small terms, over plain wires, by words.
-ghost use Rattle.std.specs.Prelude.{◌≡◌, ◌≤◌, [], IfOk, IsTrue};
+ghost use Rattle.std.specs.Prelude.{◌≡◌, ◌≤◌, ◌<◌, [], IfOk, IsTrue, length};
 ghost use Rattle.chyp_term.specs.Limits.{IsWithinLimits, most_size};
 ghost use Rattle.chyp_term.specs.Measure.{size_of};
 ghost use Rattle.chyp_term.specs.Morphism.{IsTyped};
 ghost use Rattle.chyp_term.specs.Term.{morphism_of};
 
 use chyp_base::{Name, NoMemory, Sort, Sorts};
-use chyp_graph::Graph;
+use chyp_graph::{EdgeId, Graph, WireId};
 use chyp_term::{
     MOST_DEPTH, MOST_GENERATORS, MOST_SIZE, Perm, Places, Term, depth, gens, shape_of, size,
 };
@@ -160,4 +160,63 @@ pub(crate) fn checked(alloc: Global, term: Term) -> Result<Term, Fail>
 pub(crate) fn graph(alloc: Global, words: &str) -> Result<Graph, Fail> {
     let term = typed(alloc, words)?;
     Ok(Graph::of_term(alloc, &term)?)
+}
+
+/// Numbers of wires, each with a blank in front of it.
+pub(crate) fn numbers(alloc: Global, wires: &[WireId]) -> Result<String, Fail> {
+    let mut words = String::new(alloc);
+    for wire in wires {
+        words = format!(in alloc; "{words} {}", wire.0)?;
+    }
+    Ok(words)
+}
+
+/// An edge in words: its name, its sources and its targets.
+fn told_edge(alloc: Global, graph: &Graph, k: EdgeId) -> Result<String, Fail>
+    requires { k < length graph.now.edges }
+{
+    let edge = graph.edge(k);
+    let sources = numbers(alloc, edge.sources)?;
+    let targets = numbers(alloc, edge.targets)?;
+    let name = edge.name.as_str();
+    Ok(format!(in alloc; "{name}{sources} ->{targets}")?)
+}
+
+/// A graph in words: how many wires, each edge, and the inputs and outputs.
+pub(crate) fn told(alloc: Global, graph: &Graph) -> Result<String, Fail> {
+    let mut words = format!(in alloc; "{} wires", graph.wire_count())?;
+    for k in 0..graph.edge_count() {
+        let edge = told_edge(alloc, graph, EdgeId(k))?;
+        words = format!(in alloc; "{words}; {edge}")?;
+    }
+    let inputs = numbers(alloc, graph.inputs())?;
+    let outputs = numbers(alloc, graph.outputs())?;
+    Ok(format!(in alloc; "{words};{inputs} ->{outputs}")?)
+}
+
+/// A term in words, with each composition and tensor in parentheses, and permutations by their places.
+pub(crate) fn told_term(alloc: Global, term: &Term) -> Result<String, Fail> {
+    match term {
+        Term::Gen { name, .. } => Ok(format!(in alloc; "{}", name.as_str())?),
+        Term::Perm { perm, .. } => Ok(format!(in alloc; "{:?}", perm.places())?),
+        Term::Seq(first, second) => {
+            let first = told_term(alloc, first)?;
+            let second = told_term(alloc, second)?;
+            Ok(format!(in alloc; "({first} ; {second})")?)
+        }
+        Term::Par(left, right) => {
+            let left = told_term(alloc, left)?;
+            let right = told_term(alloc, right)?;
+            Ok(format!(in alloc; "({left} * {right})")?)
+        }
+    }
+}
+
+/// Words joined with themselves so many times, each time twice as many.
+pub(crate) fn doubled(alloc: Global, word: &str, times: u32, join: &str) -> Result<String, Fail> {
+    let mut words = format!(in alloc; "{word}")?;
+    for _ in 0..times {
+        words = format!(in alloc; "{words} {words} {join}")?;
+    }
+    Ok(words)
 }

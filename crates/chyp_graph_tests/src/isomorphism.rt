@@ -28,22 +28,26 @@ fn is_same(alloc: Global, a: &Graph, b: &Graph) -> Result<bool, Fail> {
     Ok(there)
 }
 
+/// The isomorphism, by the images of edges and of wires.
+fn told(alloc: Global, a: &Graph, b: &Graph) -> Result<String, Fail> {
+    if !is_small(a) || !is_small(b) {
+        return Err(Fail::new("too large"));
+    }
+    let mut scratch = Scratch::for_sizes(alloc, 4, 4)?;
+    match same(&mut scratch, a, b) {
+        Some(iso) => Ok(format!(in alloc; "{:?} {:?}", iso.edges, iso.wires)?),
+        None => Err(Fail::new("no isomorphism")),
+    }
+}
+
 #[test]
 fn crossings_pass_through(rt: HostRuntime) -> Result<(), Fail> {
     let alloc = rt.alloc();
     let first = graph(alloc, "f g * sw ;")?;
     let second = graph(alloc, "sw g f * ;")?;
-    if !is_small(&first) || !is_small(&second) {
-        return Err(Fail::new("too large"));
-    }
-    let mut scratch = Scratch::for_sizes(alloc, 4, 4)?;
-    let Some(iso) = same(&mut scratch, &first, &second) else {
-        return Err(Fail::new("they are the same"));
-    };
-    assert_eq!(rt; iso.edges, [EdgeId(1), EdgeId(0)].as_slice());
     assert_eq!(rt;
-        iso.wires,
-        [WireId(0), WireId(3), WireId(1), WireId(2)].as_slice()
+        told(alloc, &first, &second)?.as_str(),
+        "[EdgeId(1), EdgeId(0)] [WireId(0), WireId(3), WireId(1), WireId(2)]"
     );
     Ok(())
 }

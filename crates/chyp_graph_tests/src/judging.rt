@@ -56,88 +56,70 @@ fn judged(alloc: Global, from: &str, to: &str, step: &Step) -> Result<Judged, Fa
     judged_terms(alloc, &from, &to, step)
 }
 
+/// The judgement in words on a step by the laws.
+fn told_by_laws(alloc: Global, from: &str, to: &str) -> Result<String, Fail> {
+    let judged = judged(alloc, from, to, &Step::Refl)?;
+    Ok(format!(in alloc; "{judged:?}")?)
+}
+
 #[test]
 fn steps_by_the_laws_are_judged(rt: HostRuntime) -> Result<(), Fail> {
     let alloc = rt.alloc();
-    for (from, to, want) in [
-        ("f", "g", Judged::Differs),
-        ("f g * sw ;", "sw g f * ;", Judged::Good),
+    for (from, to, wanted) in [
+        ("f", "g", "Differs"),
+        ("f g * sw ;", "sw g f * ;", "Good"),
     ] {
-        assert_eq!(rt;
-            judged(alloc, from, to, &Step::Refl)?,
-            want,
-            "{from} and {to}"
-        );
+        assert_eq!(rt; told_by_laws(alloc, from, to)?.as_str(), wanted, "{from} to {to}");
     }
     Ok(())
 }
 
-/// Fails unless the step by the rule is judged so.
-fn check(alloc: Global, words: [&'static str; 4], want: Judged) -> Result<(), Fail> {
-    let [from, to, left, right] = words;
-    if judged(alloc, from, to, &by_rule(alloc, left, right)?)? == want {
-        return Ok(());
-    }
-    Err(Fail::new("another judgement"))
+/// Two terms in words.
+type Pair = (&'static str, &'static str);
+
+/// The judgement in words on a step from the one term to the other, by the rule of these sides.
+fn told(alloc: Global, ends: Pair, sides: Pair) -> Result<String, Fail> {
+    let step = by_rule(alloc, sides.0, sides.1)?;
+    let judged = judged(alloc, ends.0, ends.1, &step)?;
+    Ok(format!(in alloc; "{judged:?}")?)
 }
+
+const SIXTEEN: &str = "s s * s * s * s * s * s * s * s * s * s * s * s * s * s * s *";
+const SEVENTEEN: &str = "s s * s * s * s * s * s * s * s * s * s * s * s * s * s * s * s *";
+
+// Steps, with the sides of the rules that they go by, and the judgements on them.
+const STEPS: [(Pair, Pair, &str); 20] = [
+    (("f g ; h ;", "h g ; f ;"), ("f h *", "h f *"), "NoRewrite { occurrences: 0 }"),
+    (("u u * m ;", "u"), ("u id * m ;", "id"), "Good"),
+    (("f", "u f * m ;"), ("id", "u id * m ;"), "Good"),
+    (("f", "f s *"), ("id0", "s"), "Good"),
+    (("f", "f"), ("id0", "s"), "NoRewrite { occurrences: 1 }"),
+    (("f", "f"), ("id id *", "sw"), "NoRewrite { occurrences: 0 }"),
+    (("f f *", "f f * sw ;"), ("f f *", "f f * sw ;"), "Good"),
+    (("f f ;", "f f ;"), ("f f *", "f f *"), "NoRewrite { occurrences: 0 }"),
+    (("f f ; f ;", "g f ;"), ("f f ;", "g"), "Good"),
+    (("f f ; f ;", "f g ;"), ("f f ;", "g"), "Good"),
+    (("f f ; f ;", "g g ;"), ("f f ;", "g"), "NoRewrite { occurrences: 2 }"),
+    // Occurrences that leave a difference are passed over.
+    (("f f ; f ; f ;", "f f ; g ;"), ("f f ;", "g"), "Good"),
+    (("f f ; f ; f ;", "f g ; f ;"), ("f f ;", "g"), "Good"),
+    (("f f ; f ; f ;", "f h ; f ;"), ("f f ;", "g"), "NoRewrite { occurrences: 3 }"),
+    (("f f * f *", "f f * g *"), ("f", "g"), "Good"),
+    (("f f * f *", "f g * h *"), ("f", "g"), "NoRewrite { occurrences: 3 }"),
+    (("id id * id *", "id id * f *"), ("id", "f"), "Good"),
+    (("id id * id *", "g f * f *"), ("id", "f"), "NoRewrite { occurrences: 3 }"),
+    // Scalars have many occurrences, or too many placements.
+    ((SIXTEEN, SIXTEEN), ("s s * s * s *", "s"), "NoRewrite { occurrences: 43680 }"),
+    ((SEVENTEEN, SEVENTEEN), ("s s * s * s *", "s"), "TooWide { placements: 83521 }"),
+];
 
 #[test]
 fn steps_by_a_rule_are_judged(rt: HostRuntime) -> Result<(), Fail> {
     let alloc = rt.alloc();
-    let none = Judged::NoRewrite { occurrences: 0 };
-    let one = Judged::NoRewrite { occurrences: 1 };
-    let two = Judged::NoRewrite { occurrences: 2 };
-    check(alloc, ["f g ; h ;", "h g ; f ;", "f h *", "h f *"], none)?;
-    check(alloc, ["u u * m ;", "u", "u id * m ;", "id"], Judged::Good)?;
-    check(alloc, ["f", "u f * m ;", "id", "u id * m ;"], Judged::Good)?;
-    check(alloc, ["f", "f s *", "id0", "s"], Judged::Good)?;
-    check(alloc, ["f", "f", "id0", "s"], one)?;
-    check(alloc, ["f", "f", "id id *", "sw"], none)?;
-    check(
-        alloc,
-        ["f f *", "f f * sw ;", "f f *", "f f * sw ;"],
-        Judged::Good,
-    )?;
-    check(alloc, ["f f ;", "f f ;", "f f *", "f f *"], none)?;
-    check(alloc, ["f f ; f ;", "g f ;", "f f ;", "g"], Judged::Good)?;
-    check(alloc, ["f f ; f ;", "f g ;", "f f ;", "g"], Judged::Good)?;
-    check(alloc, ["f f ; f ;", "g g ;", "f f ;", "g"], two)
-}
-
-#[test]
-fn occurrences_that_leave_a_difference_are_passed_over(rt: HostRuntime) -> Result<(), Fail> {
-    let alloc = rt.alloc();
-    let three = Judged::NoRewrite { occurrences: 3 };
-    let last = ["f f ; f ; f ;", "f f ; g ;", "f f ;", "g"];
-    check(alloc, last, Judged::Good)?;
-    check(
-        alloc,
-        ["f f ; f ; f ;", "f g ; f ;", "f f ;", "g"],
-        Judged::Good,
-    )?;
-    check(alloc, ["f f ; f ; f ;", "f h ; f ;", "f f ;", "g"], three)?;
-    check(alloc, ["f f * f *", "f f * g *", "f", "g"], Judged::Good)?;
-    check(alloc, ["f f * f *", "f g * h *", "f", "g"], three)?;
-    check(
-        alloc,
-        ["id id * id *", "id id * f *", "id", "f"],
-        Judged::Good,
-    )?;
-    check(alloc, ["id id * id *", "g f * f *", "id", "f"], three)
-}
-
-#[test]
-fn scalars_are_rewritten_or_are_too_many(rt: HostRuntime) -> Result<(), Fail> {
-    let alloc = rt.alloc();
-    let sixteen = "s s * s * s * s * s * s * s * s * s * s * s * s * s * s * s *";
-    let more = "s s * s * s * s * s * s * s * s * s * s * s * s * s * s * s * s *";
-    let left = "s s * s * s *";
-    let none = Judged::NoRewrite {
-        occurrences: 43_680,
-    };
-    let wide = Judged::TooWide { placements: 83_521 };
-    check(alloc, [sixteen, sixteen, left, "s"], none)?;
-    check(alloc, [more, more, left, "s"], wide)
+    for (ends, sides, wanted) in STEPS {
+        assert_eq!(rt; told(alloc, ends, sides)?.as_str(), wanted);
+    }
+    Ok(())
 }
 
 /// So many wires, side by side.

@@ -1,6 +1,6 @@
 // Pictures of small graphs, and of one that is too big.
-use crate::diagrams::graph;
-use chyp_layout::{LayoutError, layout};
+use crate::diagrams::{doubled, graph};
+use chyp_layout::layout;
 use chyp_picture::{BoxAt, Line, Picture};
 use std::alloc::Global;
 use std::test::Fail;
@@ -40,11 +40,11 @@ fn with_lines(alloc: Global, words: String, picture: &Picture) -> Result<String,
     Ok(words)
 }
 
-/// The picture of the graph of the term of these words, in words.
+/// The picture of the graph of the term of these words, in words, or why there is none.
 fn drawn(alloc: Global, words: &str) -> Result<String, Fail> {
     match layout(alloc, &graph(alloc, words)?) {
         Ok(picture) => in_words(alloc, &picture),
-        Err(_) => Err(Fail::new("no picture")),
+        Err(error) => Ok(format!(in alloc; "{error:?}")?),
     }
 }
 
@@ -71,15 +71,6 @@ fn small_graphs_have_their_pictures(rt: HostRuntime) -> Result<(), Fail> {
     Ok(())
 }
 
-/// Words joined with themselves so many times, each time twice as many.
-fn doubled(alloc: Global, word: &str, times: u32, join: &str) -> Result<String, Fail> {
-    let mut words = format!(in alloc; "{word}")?;
-    for _ in 0..times {
-        words = format!(in alloc; "{words} {words} {join}")?;
-    }
-    Ok(words)
-}
-
 #[test]
 fn a_picture_that_is_too_big_is_refused(rt: HostRuntime) -> Result<(), Fail> {
     let alloc = rt.alloc();
@@ -87,10 +78,7 @@ fn a_picture_that_is_too_big_is_refused(rt: HostRuntime) -> Result<(), Fail> {
     let wires = doubled(alloc, "id", 10, "*")?;
     let chain = doubled(alloc, "f", 8, ";")?;
     let words = format!(in alloc; "{wires} {chain} *")?;
-    let graph = graph(alloc, &words)?;
-    match layout(alloc, &graph) {
-        Err(error) => assert_eq!(rt; error, LayoutError::TooBig { points: 262_400 }),
-        Ok(_) => return Err(Fail::new("a picture")),
-    }
+    let error = drawn(alloc, &words)?;
+    assert_eq!(rt; error.as_str(), "TooBig { points: 262400 }");
     Ok(())
 }

@@ -1,126 +1,102 @@
 // Occurrences of patterns in graphs.
-ghost use Rattle.std.specs.Prelude.{◌≡◌, ◌+◌, IsTrue};
-
-use crate::diagrams::graph;
-use chyp_graph::{EdgeId, WireId};
+use crate::diagrams::{graph, numbers};
+use chyp_graph::{EdgeId, Graph};
 use chyp_match::{Listed, Occurrences};
 use chyp_pattern::{Occurrence, Pattern};
 use std::alloc::Global;
 use std::test::Fail;
 
-/// Images of edges and of wires.
-type Images = (&'static [u32], &'static [u32]);
-
-/// Whether these are the numbers of the edges.
-fn are_edges(edges: &[EdgeId], numbers: &[u32]) -> bool {
-    if edges.len() != numbers.len() {
-        return false;
+/// Numbers of edges, each with a blank in front of it.
+fn edge_numbers(alloc: Global, edges: &[EdgeId]) -> Result<String, Fail> {
+    let mut words = String::new(alloc);
+    for edge in edges {
+        words = format!(in alloc; "{words} {}", edge.0)?;
     }
-    for (i, edge) in edges.iter().enumerate() {
-        if numbers.get(i) != Some(&edge.0) {
-            return false;
-        }
-    }
-    true
+    Ok(words)
 }
 
-/// Whether these are the numbers of the wires.
-fn are_wires(wires: &[WireId], numbers: &[u32]) -> bool {
-    if wires.len() != numbers.len() {
-        return false;
+/// The images of edges, a colon, and those of wires.
+fn images(alloc: Global, at: &Occurrence) -> Result<String, Fail> {
+    let edges = edge_numbers(alloc, at.edges.as_slice())?;
+    let wires = numbers(alloc, at.wires.as_slice())?;
+    Ok(format!(in alloc; "{edges}:{wires}")?)
+}
+
+/// The next occurrence in words, and a stroke where there is none.
+fn next(alloc: Global, occurrences: &mut Occurrences) -> Result<String, Fail> {
+    match occurrences.next() {
+        Some(at) => images(alloc, at),
+        None => Ok(format!(in alloc; "-")?),
     }
-    for (i, wire) in wires.iter().enumerate() {
-        if numbers.get(i) != Some(&wire.0) {
-            return false;
-        }
+}
+
+/// The next eight occurrences in words.
+fn eight(alloc: Global, occurrences: &mut Occurrences) -> Result<String, Fail> {
+    let mut words = String::new(alloc);
+    for _ in 0..8u32 {
+        let at = next(alloc, occurrences)?;
+        words = format!(in alloc; "{words}{at};")?;
     }
-    true
+    Ok(words)
 }
 
-/// Whether the occurrence has these images.
-fn has_images(occurrence: &Occurrence, images: &Images) -> bool {
-    are_edges(occurrence.edges.as_slice(), images.0)
-        && are_wires(occurrence.wires.as_slice(), images.1)
-}
-
-/// Whether there is one more occurrence.
-fn has_more(occurrences: &mut Occurrences) -> bool
-    ensures pattern { occurrences.new.pattern ≡ occurrences.old.pattern }
-    ensures given { IsTrue result → occurrences.new.given ≡ occurrences.old.given + 1 }
-{
-    occurrences.next().is_some()
-}
-
-/// Fails unless these are the occurrences of the pattern, in order.
-fn check(alloc: Global, pattern: &str, target: &str, all: &[Images]) -> Result<(), Fail> {
+/// The first eight occurrences of the pattern in words.
+fn told(alloc: Global, pattern: &str, target: &str) -> Result<String, Fail> {
     let pattern = Pattern::of(graph(alloc, pattern)?)?;
     let target = graph(alloc, target)?;
     let listed = Listed::of(alloc, &target)?;
     let mut occurrences = Occurrences::new(alloc, &pattern, &listed)?;
-    for images in all {
-        match occurrences.next() {
-            Some(occurrence) => {
-                if !has_images(occurrence, images) {
-                    return Err(Fail::new("another occurrence"));
-                }
-            }
-            None => return Err(Fail::new("an occurrence is left out")),
-        }
-    }
-    if has_more(&mut occurrences) || has_more(&mut occurrences) {
-        return Err(Fail::new("one occurrence more"));
-    }
-    Ok(())
+    let words = eight(alloc, &mut occurrences)?;
+    Ok(words)
 }
 
 #[test]
 fn patterns_have_occurrences(rt: HostRuntime) -> Result<(), Fail> {
     let alloc = rt.alloc();
-    let both: [Images; 2] = [(&[0, 1], &[0, 1, 2, 3]), (&[1, 0], &[2, 3, 0, 1])];
-    check(alloc, "f f *", "f f *", &both)?;
-    check(alloc, "f f *", "f f ;", &[])?;
-    check(alloc, "u id * m ;", "u u * m ;", &[(&[0, 2], &[0, 1, 2])])?;
-    check(alloc, "id id *", "f", &[])?;
-    check(alloc, "id0", "f g ;", &[(&[], &[])])?;
-    check(alloc, "f h *", "f g ; h ;", &[])?;
-    check(alloc, "f h *", "f g * h *", &[(&[0, 2], &[0, 1, 4, 5])])?;
-    check(alloc, "id", "f", &[(&[], &[0]), (&[], &[1])])?;
-    check(alloc, "f id *", "f f ;", &[])?;
-    check(
-        alloc,
-        "f f ;",
-        "f f ; f ;",
-        &[(&[0, 1], &[0, 1, 2]), (&[1, 2], &[1, 2, 3])],
-    )?;
-    let scalars: [Images; 6] = [
-        (&[0, 1], &[]),
-        (&[0, 2], &[]),
-        (&[1, 0], &[]),
-        (&[1, 2], &[]),
-        (&[2, 0], &[]),
-        (&[2, 1], &[]),
-    ];
-    check(alloc, "s s *", "s s * s *", &scalars)
+    for (pattern, target, wanted) in [
+        ("f f *", "f f *", " 0 1: 0 1 2 3; 1 0: 2 3 0 1;-;-;-;-;-;-;"),
+        ("f f *", "f f ;", "-;-;-;-;-;-;-;-;"),
+        ("u id * m ;", "u u * m ;", " 0 2: 0 1 2;-;-;-;-;-;-;-;"),
+        ("id id *", "f", "-;-;-;-;-;-;-;-;"),
+        ("id0", "f g ;", ":;-;-;-;-;-;-;-;"),
+        ("f h *", "f g ; h ;", "-;-;-;-;-;-;-;-;"),
+        ("f h *", "f g * h *", " 0 2: 0 1 4 5;-;-;-;-;-;-;-;"),
+        ("id", "f", ": 0;: 1;-;-;-;-;-;-;"),
+        ("f id *", "f f ;", "-;-;-;-;-;-;-;-;"),
+        ("f f ;", "f f ; f ;", " 0 1: 0 1 2; 1 2: 1 2 3;-;-;-;-;-;-;"),
+        ("s s *", "s s * s *", " 0 1:; 0 2:; 1 0:; 1 2:; 2 0:; 2 1:;-;-;"),
+    ] {
+        assert_eq!(rt; told(alloc, pattern, target)?.as_str(), wanted);
+    }
+    Ok(())
+}
+
+/// How many of the next 65,536 occurrences there are.
+fn count(occurrences: &mut Occurrences) -> u32 {
+    let mut count: u32 = 0;
+    for _ in 0..65_536u32 {
+        if occurrences.next().is_some() {
+            count = count.saturating_add(1);
+        }
+    }
+    count
+}
+
+/// How many occurrences the one graph has in the other.
+fn count_in(alloc: Global, pattern: Graph, target: &Graph) -> Result<u32, Fail> {
+    let pattern = Pattern::of(pattern)?;
+    let listed = Listed::of(alloc, target)?;
+    let mut occurrences = Occurrences::new(alloc, &pattern, &listed)?;
+    let count = count(&mut occurrences);
+    Ok(count)
 }
 
 #[test]
 fn scalars_have_as_many_occurrences_as_there_are_arrangements(rt: HostRuntime) -> Result<(), Fail> {
     let alloc = rt.alloc();
-    let pattern = Pattern::of(graph(alloc, "s s * s * s *")?)?;
-    let target = graph(
-        alloc,
-        "s s * s * s * s * s * s * s * s * s * s * s * s * s * s * s *",
-    )?;
-    let listed = Listed::of(alloc, &target)?;
-    let mut occurrences = Occurrences::new(alloc, &pattern, &listed)?;
-    let mut count: u32 = 0;
-    for _ in 0..65_536u32 {
-        if has_more(&mut occurrences) {
-            count = count.saturating_add(1);
-        }
-    }
-    if count == 43_680 {
-        return Ok(());
-    }
-    Err(Fail::new("another number of occurrences"))
+    let sixteen = "s s * s * s * s * s * s * s * s * s * s * s * s * s * s * s *";
+    let target = graph(alloc, sixteen)?;
+    let count = count_in(alloc, graph(alloc, "s s * s * s *")?, &target)?;
+    assert_eq!(rt; count, 43_680);
+    Ok(())
 }

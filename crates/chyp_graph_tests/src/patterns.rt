@@ -1,48 +1,45 @@
 // Components of graphs, and their placements.
 use crate::diagrams::graph;
-use chyp_graph::{EdgeId, WireId};
 use chyp_match::placements;
-use chyp_pattern::{Anchor, Pattern};
+use chyp_pattern::Pattern;
 use std::alloc::Global;
 use std::test::Fail;
 
-/// Fails unless the components of the graph of these words begin with these.
-fn check(alloc: Global, words: &str, edges: u32, anchors: &[Anchor]) -> Result<(), Fail> {
+/// The components of the graph of these words, by their first edges or their wires.
+fn components(alloc: Global, words: &str) -> Result<String, Fail> {
     let pattern = Pattern::of(graph(alloc, words)?)?;
-    if pattern.graph().edge_count() != edges {
-        return Err(Fail::new("another graph"));
-    }
+    let mut told = format!(in alloc; "{} edges:", pattern.graph().edge_count())?;
     for k in 0..pattern.component_count() {
-        if anchors.get(k as usize) != Some(&pattern.anchor(k)) {
-            return Err(Fail::new("another component"));
-        }
+        told = format!(in alloc; "{told} {:?}", pattern.anchor(k))?;
     }
-    if pattern.component_count() as usize == anchors.len() {
-        return Ok(());
-    }
-    Err(Fail::new("fewer components"))
+    Ok(told)
 }
 
 #[test]
 fn graphs_have_their_components(rt: HostRuntime) -> Result<(), Fail> {
     let alloc = rt.alloc();
-    check(alloc, "f g ;", 2, &[Anchor::Edge(EdgeId(0))])?;
-    let two = [Anchor::Edge(EdgeId(0)), Anchor::Edge(EdgeId(1))];
-    check(alloc, "f g * sw ;", 2, &two)?;
-    let scalar = [Anchor::Edge(EdgeId(0)), Anchor::Edge(EdgeId(3))];
-    check(alloc, "f u * m ; s *", 4, &scalar)?;
-    let bare = [
-        Anchor::Edge(EdgeId(0)),
-        Anchor::Wire(WireId(0)),
-        Anchor::Wire(WireId(1)),
-    ];
-    check(alloc, "id2 f *", 1, &bare)
+    for (words, told) in [
+        ("f g ;", "2 edges: Edge(EdgeId(0))"),
+        ("f g * sw ;", "2 edges: Edge(EdgeId(0)) Edge(EdgeId(1))"),
+        ("f u * m ; s *", "4 edges: Edge(EdgeId(0)) Edge(EdgeId(3))"),
+        ("id2 f *", "1 edges: Edge(EdgeId(0)) Wire(WireId(0)) Wire(WireId(1))"),
+    ] {
+        assert_eq!(rt; components(alloc, words)?.as_str(), told);
+    }
+    Ok(())
+}
+
+/// How many placements the one graph has in the other.
+fn count(alloc: Global, pattern: &str, target: &str) -> Result<u64, Fail> {
+    let pattern = Pattern::of(graph(alloc, pattern)?)?;
+    let target = graph(alloc, target)?;
+    Ok(placements(&pattern, &target))
 }
 
 #[test]
 fn patterns_have_placements(rt: HostRuntime) -> Result<(), Fail> {
     let alloc = rt.alloc();
-    let cases = [
+    for (pattern, target, wanted) in [
         ("f f *", "f f *", 4),
         ("f f *", "f f ;", 4),
         ("u id * m ;", "u u * m ;", 2),
@@ -50,12 +47,8 @@ fn patterns_have_placements(rt: HostRuntime) -> Result<(), Fail> {
         ("id0", "f", 1),
         ("f g * f *", "f g * f *", 4),
         ("f s *", "f", 0),
-    ];
-    for (pattern, target, count) in cases {
-        let pattern = Pattern::of(graph(alloc, pattern)?)?;
-        if placements(&pattern, &graph(alloc, target)?) != count {
-            return Err(Fail::new("another number of placements"));
-        }
+    ] {
+        assert_eq!(rt; count(alloc, pattern, target)?, wanted);
     }
     Ok(())
 }

@@ -1,5 +1,5 @@
 // The n-th rewrites of terms.
-use crate::diagrams::typed;
+use crate::diagrams::{doubled, told_term, typed};
 use crate::judging::have_one_type;
 use chyp_nth::{Nth, nth_rewrite};
 use chyp_term::Equation;
@@ -18,31 +18,41 @@ fn nth(alloc: Global, from: &str, sides: [&str; 2], n: u64) -> Result<Nth, Fail>
     Err(Fail::new("sides of two types"))
 }
 
-/// Fails unless that rewrite is the term of these words.
-fn check(alloc: Global, from: &str, sides: [&str; 2], n: u64, want: &str) -> Result<(), Fail> {
-    let Nth::Rewritten(term) = nth(alloc, from, sides, n)? else {
-        return Err(Fail::new("no rewrite"));
-    };
-    let want = typed(alloc, want)?;
-    if format!(in alloc; "{term:?}")? == format!(in alloc; "{want:?}")? {
-        return Ok(());
+/// What the rewrite is, in words.
+fn told(alloc: Global, nth: &Nth) -> Result<String, Fail> {
+    match nth {
+        Nth::Rewritten(term) => told_term(alloc, term),
+        Nth::NoSuch { count } => Ok(format!(in alloc; "one of {count}")?),
+        Nth::TooWide { placements } => Ok(format!(in alloc; "{placements} placements")?),
+        Nth::TooBig => Ok(format!(in alloc; "too big")?),
     }
-    Err(Fail::new("another rewrite"))
 }
+
+const SEVENTEEN: &str = "s s * s * s * s * s * s * s * s * s * s * s * s * s * s * s * s *";
 
 #[test]
 fn terms_are_rewritten_at_each_occurrence(rt: HostRuntime) -> Result<(), Fail> {
     let alloc = rt.alloc();
-    let unit = ["id", "u id * m ;"];
-    check(alloc, "f", unit, 0, "u id * m f ; ;")?;
-    check(alloc, "f", unit, 1, "f u * sw m ; ;")?;
-    let Nth::NoSuch { count: 2 } = nth(alloc, "f", unit, 2)? else {
-        return Err(Fail::new("a third one"));
-    };
-    let four = ["s s * s * s *", "s"];
-    let seventeen = "s s * s * s * s * s * s * s * s * s * s * s * s * s * s * s * s *";
-    let Nth::TooWide { placements: 83_521 } = nth(alloc, seventeen, four, 0)? else {
-        return Err(Fail::new("not too wide"));
-    };
+    for (from, left, right, n, wanted) in [
+        ("f", "id", "u id * m ;", 0, "((u * [0]) ; (m ; f))"),
+        ("f", "id", "u id * m ;", 1, "((f * u) ; ([1, 0] ; m))"),
+        ("f", "id", "u id * m ;", 2, "one of 2"),
+        (SEVENTEEN, "s s * s * s *", "s", 0, "83521 placements"),
+    ] {
+        let nth = nth(alloc, from, [left, right], n)?;
+        assert_eq!(rt; told(alloc, &nth)?.as_str(), wanted);
+    }
+    Ok(())
+}
+
+#[test]
+fn a_rewrite_that_passes_a_limit_is_not_made(rt: HostRuntime) -> Result<(), Fail> {
+    let alloc = rt.alloc();
+    // Each box of the chain is read back beside 1,024 wires, which together are too big.
+    let chain = doubled(alloc, "f", 7, ";")?;
+    let wires = doubled(alloc, "id", 10, "*")?;
+    let words = format!(in alloc; "{chain} {wires} *")?;
+    let nth = nth(alloc, &words, ["f", "g"], 0)?;
+    assert_eq!(rt; told(alloc, &nth)?.as_str(), "too big");
     Ok(())
 }

@@ -1,7 +1,7 @@
-use Rattle.std.proofs.Common.{[], refl}
+use Rattle.std.proofs.Common.{refl}
 use Rattle.chyp_env.specs.declared.import_state.ImportState.TheVariants.{NotImport}
 use Rattle.chyp_env.proofs.Imports.{agrees_with_nothing, alone}
-use Rattle.chyp_text_tests.proofs.statements.accept.Goals as goal
+use Rattle.chyp_text_tests.proofs.statements.share.Goals as goal
 
 pub bind-requires-clause-state : goal.bind-requires-clause-state
 bind-requires-clause-state c = alone _ _ NotImport refl

@@ -1,7 +1,7 @@
-use Rattle.std.proofs.Common.{[], refl}
+use Rattle.std.proofs.Common.{refl}
 use Rattle.chyp_env.specs.declared.import_state.ImportState.TheVariants.{NotImport}
 use Rattle.chyp_env.proofs.Imports.{agrees_with_nothing, alone}
-use Rattle.chyp_text_tests.proofs.statements.accept_owned.Goals as goal
+use Rattle.chyp_text_tests.proofs.statements.hand_over.Goals as goal
 
 pub bind_owned-requires-clause-state : goal.bind_owned-requires-clause-state
 bind_owned-requires-clause-state c = alone _ _ NotImport refl

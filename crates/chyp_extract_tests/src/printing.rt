@@ -1,0 +1,151 @@
+// Terms that are printed, and the texts read back.
+use crate::reading::{bound, read};
+use crate::words::{graph, permutation, term, told};
+use chyp_env::Env;
+use chyp_extractor::extract;
+use chyp_print::{OwnNames, print};
+use chyp_term::Term;
+use std::alloc::Global;
+use std::test::Fail;
+
+/// The text of a term.
+fn printed(alloc: Global, term: &Term) -> Result<String, Fail> {
+    let text = print(alloc, term, &OwnNames)?;
+    match String::from_utf8(text.into_vec()) {
+        Ok(text) => Ok(text),
+        Err(_) => Err(Fail::new("no text")),
+    }
+}
+
+/// Fails unless the term has this text, and the text is read as what these words tell.
+fn check(alloc: Global, env: &Env, term: &Term, wanted: (&str, &str)) -> Result<(), Fail> {
+    let text = printed(alloc, term)?;
+    if text.as_str() != wanted.0 {
+        return Err(Fail::new("another text"));
+    }
+    let back = read(alloc, env, &text)?;
+    if back.as_str() != wanted.1 {
+        return Err(Fail::new("another term"));
+    }
+    Ok(())
+}
+
+/// Fails unless the term has this text, and the text is read as the term.
+fn check_itself(alloc: Global, env: &Env, term: &Term, text: &str) -> Result<(), Fail> {
+    let back = told(alloc, term)?;
+    check(alloc, env, term, (text, back.as_str()))
+}
+
+/// The generators of the words.
+const GENERATORS: [(&str, usize, usize); 7] = [
+    ("f", 1, 1),
+    ("g", 1, 1),
+    ("m", 2, 1),
+    ("u", 0, 1),
+    ("s", 0, 0),
+    ("t", 0, 0),
+    ("p.f", 1, 1),
+];
+
+#[test]
+fn printed_terms_are_read_back(rt: HostRuntime) -> Result<(), Fail> {
+    let alloc = rt.alloc();
+    let env = bound(alloc, &GENERATORS)?;
+    for (words, text, back) in [
+        ("f", "f", "f"),
+        ("p.f f ;", "p.f ; f", "(p.f ; f)"),
+        // Chains of any bracketing are flat, and are halved where they are read.
+        ("f f ; f ;", "f ; f ; f", "(f ; (f ; f))"),
+        ("f f f ; ;", "f ; f ; f", "(f ; (f ; f))"),
+        ("f f * f *", "f * f * f", "(f * (f * f))"),
+        ("f f f * *", "f * f * f", "(f * (f * f))"),
+        ("f f ; f f ; ;", "f ; f ; f ; f", "((f ; f) ; (f ; f))"),
+        ("f g * f g * ;", "f * g ; f * g", "((f * g) ; (f * g))"),
+        ("f f ; g *", "(f ; f) * g", "((f ; f) * g)"),
+        ("g f f ; *", "g * (f ; f)", "(g * (f ; f))"),
+        (
+            "g f f g * sw ; m ; * *",
+            "g * f * (f * g ; sw ; m)",
+            "(g * (f * ((f * g) ; ([1, 0] ; m))))",
+        ),
+        ("id0", "id0", "[]"),
+        ("id", "id", "[0]"),
+        ("sw", "sw", "[1, 0]"),
+        ("id2", "sw[0,1]", "[0, 1]"),
+        ("turn", "sw[1,2,0]", "[1, 2, 0]"),
+        ("f id *", "f * id", "(f * [0])"),
+        ("s id0 ; t *", "(s ; id0) * t", "((s ; []) * t)"),
+    ] {
+        check(alloc, &env, &term(alloc, words)?, (text, back))?;
+    }
+    Ok(())
+}
+
+#[test]
+fn extracted_terms_are_read_back_themselves(rt: HostRuntime) -> Result<(), Fail> {
+    let alloc = rt.alloc();
+    let env = bound(alloc, &GENERATORS)?;
+    for (words, text) in [
+        ("f g * sw ;", "f * g ; sw"),
+        ("sw g f * ;", "sw ; g * f"),
+        ("id0", "id0"),
+        ("f id *", "f * id"),
+        ("f s *", "f * s"),
+        ("sw sw ;", "id * id"),
+        ("id f *", "sw ; f * id ; sw"),
+        ("turn f g * f * ; m g * ;", "sw[1,2,0] ; f * g * f ; m * g"),
+    ] {
+        let term = extract(alloc, &graph(alloc, words)?)?;
+        check_itself(alloc, &env, &term, text)?;
+    }
+    Ok(())
+}
+
+/// A text so many times.
+fn repeated(alloc: Global, text: &str, times: u32) -> Result<String, Fail> {
+    let mut all = String::new(alloc);
+    for _ in 0..times {
+        all.push_str(text)?;
+    }
+    Ok(all)
+}
+
+#[test]
+fn deep_terms_are_read_back(rt: HostRuntime) -> Result<(), Fail> {
+    let alloc = rt.alloc();
+    // 255 joins in one another, each other one in parentheses.
+    let tail = repeated(alloc, " s ; t *", 127)?;
+    let open = repeated(alloc, "(", 127)?;
+    let rest = repeated(alloc, " ; s) * t", 127)?;
+    let words = format!(in alloc; "s{tail} s ;")?;
+    let text = format!(in alloc; "{open}s{rest} ; s")?;
+    check_itself(
+        alloc,
+        &bound(alloc, &GENERATORS)?,
+        &term(alloc, &words)?,
+        &text,
+    )
+}
+
+#[test]
+fn long_names_are_read_back(rt: HostRuntime) -> Result<(), Fail> {
+    let alloc = rt.alloc();
+    // 100,000 bytes.
+    let name = repeated(alloc, "long", 25_000)?;
+    let env = bound(alloc, &[(name.as_str(), 1, 1)])?;
+    let words = format!(in alloc; "{name} {name} ;")?;
+    let text = format!(in alloc; "{name} ; {name}")?;
+    check_itself(alloc, &env, &term(alloc, &words)?, &text)
+}
+
+#[test]
+fn many_places_are_printed(rt: HostRuntime) -> Result<(), Fail> {
+    let alloc = rt.alloc();
+    let mut places = Vec::new(alloc);
+    for place in 0..10 {
+        places.push(9 - place)?;
+    }
+    let text = printed(alloc, &permutation(alloc, places)?)?;
+    assert_eq!(rt; text.as_str(), "sw[9,8,7,6,5,4,3,2,1,0]");
+    Ok(())
+}
