@@ -31,10 +31,10 @@ abbrev binding_kept : Option Entry → Option Binding
 binding_kept None = None
 binding_kept (Some entry) = Some (entry_of entry)
 
-kept_head : (pair : Vec ℕ Global × Entry) (pairs : Pairs) → AreKept (pair ∷ pairs) → IsKept pair.0.items pair.1
+pub kept_head : (pair : Vec ℕ Global × Entry) (pairs : Pairs) → AreKept (pair ∷ pairs) → IsKept pair.0.items pair.1
 kept_head pair pairs kept = All-head (λ (p : Vec ℕ Global × Entry). IsKept p.0.items p.1) pair pairs kept
 
-kept_tail : (pair : Vec ℕ Global × Entry) (pairs : Pairs) → AreKept (pair ∷ pairs) → AreKept pairs
+pub kept_tail : (pair : Vec ℕ Global × Entry) (pairs : Pairs) → AreKept (pair ∷ pairs) → AreKept pairs
 kept_tail pair pairs kept = All-tail (λ (p : Vec ℕ Global × Entry). IsKept p.0.items p.1) pair pairs kept
 
 -- a look-up of a key is that of the name

@@ -1,3 +1,5 @@
+pub mod Turns
+pub mod Bindings
 pub mod Envs
 pub mod Failing
 pub mod Halves

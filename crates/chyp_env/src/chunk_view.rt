@@ -52,6 +52,13 @@ impl<'a> ChunkView<'a> {
         }
     }
 
+    /// How many words it has.
+    pub fn count(&self) -> usize
+        ensures { result ≡ length self.now }
+    {
+        self.tokens.len()
+    }
+
     /// The bytes of the word of this number, none where there is no such word.
     pub fn bytes_at(&self, token: u32) -> &'a [u8]
         ensures { result.now ≡ bytes_at self.now token }

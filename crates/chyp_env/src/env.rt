@@ -1,12 +1,14 @@
 // What names stand for.
-ghost use Rattle.std.specs.Prelude.{◌≡◌, ◌<◌, ℕ, [], ◌∷◌, ◌++◌, false, length, slice_get, IfSome, IfNone, IfOk, OnOk, OnErr, Some, None};
+ghost use Rattle.std.specs.Prelude.{◌≡◌, ◌<◌, [], ◌∷◌, ◌++◌, false, length, slice_get, option_copied, IfSome, IfNone, OnOk, OnErr, Some, None};
 ghost use Rattle.chyp_env.specs.Entry.{entry_of, sense_of};
 ghost use Rattle.chyp_env.specs.Environment.{binding_of, is_bound};
+ghost use Rattle.chyp_env.specs.Import.{all_passed_on, new_in};
 ghost use Rattle.chyp_env.specs.Sound.{IsSound, IsSoundSense};
 
+use crate::entries::Entries;
+use crate::import::new_entries;
 use crate::{Entry, PlainWires};
 use chyp_base::NoMemory;
-use indexmap::IndexMap;
 use std::alloc::Global;
 use std::marker::Model;
 
@@ -15,12 +17,12 @@ use std::marker::Model;
 /// on one term, laws are equations, and generators have few ports.
 #[derive(Drop)]
 pub struct Env {
-    entries: IndexMap<Vec<u8>, Entry>,
+    entries: Entries,
     plain: Option<PlainWires>,
 }
 
 impl Model for Env {
-    ghost use Rattle.std.specs.Prelude.{List, map, All, IfSome};
+    ghost use Rattle.std.specs.Prelude.{List};
     ghost use Rattle.std.specs.Coded.{coded_list};
     ghost use Rattle.chyp_env.specs.Coded.{binding_code};
     ghost use Rattle.chyp_env.specs.Environment.{Binding};
@@ -29,14 +31,7 @@ impl Model for Env {
 
     ghost coded = { coded_list binding_code };
 
-    ghost use Rattle.chyp_env.specs.Entry.{entry_of};
-    ghost use Rattle.chyp_env.specs.Kept.{IsKept};
-    ghost use Rattle.chyp_env.specs.Sound.{HasDistinctNames};
-
-    ghost view = { λ e. map (λ pair. entry_of pair.1) e.entries.entries };
-
-    ghost invariant = { λ e. All (λ pair. IsKept pair.0.items pair.1) e.entries.entries
-        × HasDistinctNames (map (λ pair. entry_of pair.1) e.entries.entries) };
+    ghost view = { λ e. e.entries };
 }
 
 impl Env {
@@ -45,7 +40,7 @@ impl Env {
         ensures { result ≡ [] }
     {
         Env {
-            entries: IndexMap::new(alloc),
+            entries: Entries::new(alloc),
             plain: None,
         }
     }
@@ -71,17 +66,14 @@ impl Env {
         requires { number < length self.now }
         ensures { slice_get self.now number ≡ Some (entry_of result.now) }
     {
-        match self.entries.get_index(number) {
-            Some((_, entry)) => entry,
-            None => unreachable!(),
-        }
+        self.entries.at(number)
     }
 
     /// Every environment is sound.
     pub fn sound(&self)
         ensures { IsSound self.now }
     {
-        let _ = &self.entries;
+        self.entries.sound();
     }
 
     /// The plain wires that its terms share, or new ones where no name is bound.
@@ -108,7 +100,7 @@ impl Env {
 
     /// The allocator that it was made with.
     pub fn allocator(&self) -> Global {
-        *self.entries.allocator()
+        self.entries.allocator()
     }
 
     /// Binds the name of an entry, which is not bound yet. It takes constant time on average.
@@ -122,20 +114,22 @@ impl Env {
         ensures ok { OnOk result (self.new ≡ self.old ++ entry_of entry ∷ []) }
         ensures err { OnErr result (self.new ≡ self.old) }
     {
-        let name = self.prepare(&entry)?;
-        // The name is new, so nothing is dropped; as a call, it takes one step of the proof.
-        drop(self.entries.insert(name, entry)?);
-        Ok(())
+        self.keep_plain()?;
+        self.entries.insert(entry)
     }
 
-    /// The name of an entry to be bound, in bytes. The plain wires are kept from then on.
-    fn prepare(&mut self, entry: &Entry) -> Result<Vec<u8>, NoMemory>
-        ensures same { self.new ≡ self.old }
-        ensures ok { IfOk result (λ name. name.items ≡ entry.now.name) }
+    /// Binds the names of a module, each behind the prefix if there is one, that aren't bound yet, in their
+    /// order. Terms are shared.
+    ///
+    /// # Errors
+    ///
+    /// `NoMemory` where they can't be kept; nothing is bound then.
+    pub fn import(&mut self, imported: &Env, prefix: Option<&str>) -> Result<(), NoMemory>
+        ensures ok { OnOk result (self.new ≡ self.old ++ new_in self.old (all_passed_on (option_copied prefix.entry) imported.now)) }
+        ensures err { OnErr result (self.new ≡ self.old) }
     {
+        let entries = new_entries(self, imported, prefix)?;
         self.keep_plain()?;
-        let alloc = self.allocator();
-        let name = Vec::from_slice(alloc, entry.name.as_str().as_bytes())?;
-        Ok(name)
+        self.entries.append(entries)
     }
 }

@@ -8,9 +8,11 @@
 #![tactic(auto)]
 
 mod chunk_view;
+mod entries;
 mod entry;
 mod env;
 mod expansion;
+mod import;
 mod import_state;
 mod known_term;
 mod known_terms;
@@ -24,6 +26,7 @@ mod typing;
 pub use chunk_view::ChunkView;
 pub use entry::Entry;
 pub use env::Env;
+pub use import::first_clash;
 pub use import_state::ImportState;
 pub use known_term::KnownTerm;
 pub use known_terms::KnownTerms;

@@ -10,7 +10,7 @@ use Rattle.chyp_syntax.specs.Words.{Word}
 use Rattle.chyp_env.specs.Environment.{Binding}
 use Rattle.chyp_env.specs.Site.{Imported, Site}
 use Rattle.chyp_verdicts.specs.Standing.{Gets}
-use Rattle.chyp_verdicts.proofs.Bindings.{Contains-cons, Contains-from_cons, names-eq, names-same}
+use Rattle.chyp_env.proofs.Bindings.{Contains-cons, Contains-from_cons, names-eq, names-same}
 use Rattle.chyp_modules.specs.Checking.{AreAllWanted, AreWanted, Gives, HaveStatements, IsWanted, Result, all_checked, long_module, long_text, many_modules, of_more, of_none}
 use Rattle.chyp_modules.specs.Import.{Imports, LeadsTo, Reaches, at_once, by_way_of}
 use Rattle.chyp_modules.specs.Library.{IsModule, Library, Module, library_of, with_main}

@@ -10,7 +10,7 @@ use Rattle.chyp_modules.specs.Library.{Library, IsModule, with_main}
 use Rattle.chyp_modules.specs.Import.{Imports, ImportsNothing, LeadsTo, Reaches, at_once, by_way_of}
 use Rattle.chyp_modules.specs.Laws.{HasOneListOfVerdicts}
 use Rattle.chyp_modules.specs.Checking.{most_modules, AreDistinct, IsWanted, AreWanted, AreAllWanted, HaveStatements, of_none, of_more, Result, too_long, checked, Gives, long_text, long_module, many_modules, all_checked, TextsHaveOneResult}
-use Rattle.chyp_verdicts.proofs.Bindings.{Contains-cons, Contains-from_cons, Contains-from_filter, Contains-filter, names-eq, names-same}
+use Rattle.chyp_env.proofs.Bindings.{Contains-cons, Contains-from_cons, Contains-from_filter, Contains-filter, names-eq, names-same}
 use Rattle.chyp_verdicts.proofs.Known.{Known}
 use Rattle.chyp_modules.proofs.Once.{imports-unique, module-unique}
 use Rattle.chyp_modules.proofs.Reaching.{SomeImport, begins, import-or-not, statements-there, without, without-shorter, differ-not, reaches-step}

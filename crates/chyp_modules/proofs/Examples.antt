@@ -5,7 +5,7 @@ use Rattle.std.proofs.lemmas.List.Elements.{Contains-append_cases}
 use Rattle.chyp_env.specs.Environment.{broken, Binding, is_bound}
 use Rattle.chyp_env.specs.Sound.{HasDistinctNames}
 use Rattle.chyp_env.specs.Import.{all_passed_on, first_clash, new_in, prefixed}
-use Rattle.chyp_verdicts.proofs.Bindings.{Contains-from_filter, each-unbound, unbound-each}
+use Rattle.chyp_env.proofs.Bindings.{Contains-from_filter, each-unbound, unbound-each}
 
 abbrev monoid : List Binding
 monoid = record { name = codes "m"; origin = (codes "monoid", 0); sense = broken } ∷ []

@@ -9,7 +9,7 @@ use Rattle.chyp_env.specs.Site.{Imported, Site, there}
 use Rattle.chyp_names.specs.Binding.{Binds, again, anew, imports, nothing}
 use Rattle.chyp_names.specs.Elaboration.{prefix_at}
 use Rattle.chyp_verdicts.specs.Standing.{Origin}
-use Rattle.chyp_verdicts.proofs.Bindings.{import-all}
+use Rattle.chyp_env.proofs.Bindings.{import-all}
 use Rattle.chyp_verdicts.proofs.Explaining.{AreInOrder, explained}
 use Rattle.chyp_verdicts.proofs.Known.{Known}
 use Rattle.chyp_modules.specs.Explained.{StandsBefore, VerdictsAreExplained}

@@ -28,7 +28,7 @@ use Rattle.chyp_env.specs.Import.{all_passed_on, first_clash, new_in, passed_on}
 use Rattle.chyp_verdicts.specs.Judged.{IsJudged, no_sentence, refused, accepted, by_steps}
 use Rattle.chyp_modules.specs.Modules.{Makes, at_start, one_more, Stands, stands, Finds, no_import, of_none, of_circle, of_module as found}
 use Rattle.chyp_modules.specs.Laws.{IsBoundGenerator, HasBoundGenerators, HasBoundSense, GeneratorsAreBound}
-use Rattle.chyp_verdicts.proofs.Bindings.{binding-found, import-covers}
+use Rattle.chyp_env.proofs.Bindings.{binding-found, import-covers}
 use Rattle.chyp_verdicts.proofs.Known.{Known}
 use Rattle.chyp_modules.proofs.Meanings.{AreMeant, IsMeantImport, meant-same, stands-meant}
 use Rattle.chyp_verdicts.proofs.SomeBinding.{goals_at}

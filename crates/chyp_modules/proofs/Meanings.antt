@@ -13,7 +13,7 @@ use Rattle.chyp_verdicts.specs.Judged.{IsJudged}
 use Rattle.chyp_verdicts.specs.Standing.{Means}
 use Rattle.chyp_modules.specs.Modules.{Makes, at_start, one_more, Stands, stands, Finds, no_import, of_none, of_circle, of_module as found, standing}
 use Rattle.chyp_modules.specs.Laws.{OriginsDetermineSenses}
-use Rattle.chyp_verdicts.proofs.Bindings.{import-all}
+use Rattle.chyp_env.proofs.Bindings.{import-all}
 use Rattle.chyp_modules.proofs.Derived.{home-is}
 use Rattle.chyp_verdicts.proofs.Known.{Known}
 use Rattle.chyp_modules.proofs.Once.{means-unique}

@@ -13,7 +13,7 @@ use Rattle.chyp_syntax.specs.Words.{Word, bytes_at}
 use Rattle.chyp_modules.specs.Library.{Library, AreStatements}
 use Rattle.chyp_modules.specs.Import.{Imports, ImportsNothing, LeadsTo, Reaches, at_once, by_way_of}
 use Rattle.chyp_modules.specs.Laws.{ReachesOnly}
-use Rattle.chyp_verdicts.proofs.Bindings.{Contains-cons, Contains-from_cons, Contains-filter, names-eq, names-same}
+use Rattle.chyp_env.proofs.Bindings.{Contains-cons, Contains-from_cons, Contains-filter, names-eq, names-same}
 use Rattle.chyp_verdicts.proofs.Known.{Known}
 use Rattle.chyp_modules.proofs.Once.{imports-unique, module-unique}
 

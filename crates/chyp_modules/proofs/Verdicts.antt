@@ -11,7 +11,7 @@ use Rattle.chyp_modules.specs.Library.{Library, IsModule, Module, library_of, wi
 use Rattle.chyp_verdicts.specs.Judged.{IsJudged}
 use Rattle.chyp_modules.specs.Modules.{Makes, at_start, one_more, Stands, stands, standing}
 use Rattle.chyp_modules.specs.Laws.{HasOneEnvironment, HasOneListOfVerdicts, ModulesAreDetermined, TextsAreDetermined, ReachesFinitelyMany}
-use Rattle.chyp_verdicts.proofs.Bindings.{Contains-cons, names-eq}
+use Rattle.chyp_env.proofs.Bindings.{Contains-cons, names-eq}
 use Rattle.chyp_verdicts.proofs.Known.{Known}
 use Rattle.chyp_verdicts.proofs.OneVerdict.{judged-once}
 use Rattle.chyp_verdicts.proofs.Texts.{HaveVerdicts, list-same, no-verdicts, push-verdict}

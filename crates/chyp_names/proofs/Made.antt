@@ -151,6 +151,8 @@ in_module (b ∷ home) name e = sym (append_assoc (b ∷ home) (47 ∷ []) name)
 
 -- the prefix of an import is its last word, an identifier
 abbrev EndsAs : StatementTree → List NumberedToken → Type 0
+EndsAs (inclusion word None) (a ∷ b ∷ []) = Unit {0}
+EndsAs (inclusion word None) _ = ⊥
 EndsAs (inclusion word (Some prefix)) (a ∷ b ∷ c ∷ last ∷ []) = (last.0 ≡ prefix) × (kind_of last ≡ Ident)
 EndsAs (inclusion word (Some prefix)) _ = ⊥
 EndsAs _ _ = Unit {0}
@@ -174,3 +176,22 @@ prefix_spelled (a ∷ b ∷ c ∷ d ∷ []) word prefix spelled s =
     let ends = ends_as s.statement in
     subst (λ n. IsUtf8 (bytes_at (a ∷ b ∷ c ∷ d ∷ []) n)) ends.0 (spelled 3 d (omega arith) ends.1)
 prefix_spelled (a ∷ b ∷ c ∷ d ∷ e ∷ rest) word prefix spelled s = absurd (ends_as s.statement)
+
+-- its number, and that it has none
+pub prefix_fourth : (words : List Word) (word : ℕ) (as_word : Option ℕ) → IsSentence words (inclusion word as_word) → length words ≡ 4 → Some 3 ≡ as_word
+prefix_fourth (a ∷ b ∷ c ∷ d ∷ []) word None s e = absurd (ends_as s.statement)
+prefix_fourth (a ∷ b ∷ c ∷ d ∷ []) word (Some prefix) s e = ap Some (ends_as s.statement).0
+prefix_fourth [] word as_word s e = absurd (omega (arith, e))
+prefix_fourth (a ∷ []) word as_word s e = absurd (omega (arith, e))
+prefix_fourth (a ∷ b ∷ []) word as_word s e = absurd (omega (arith, e))
+prefix_fourth (a ∷ b ∷ c ∷ []) word as_word s e = absurd (omega (arith, e))
+prefix_fourth (a ∷ b ∷ c ∷ d ∷ f ∷ rest) word as_word s e = absurd (omega (arith, e))
+
+pub prefix_absent : (words : List Word) (word : ℕ) (as_word : Option ℕ) → IsSentence words (inclusion word as_word) → ¬ (length words ≡ 4) → None ≡ as_word
+prefix_absent words word None s more = refl
+prefix_absent (a ∷ b ∷ c ∷ d ∷ []) word (Some prefix) s more = absurd (more refl)
+prefix_absent [] word (Some prefix) s more = absurd (ends_as s.statement)
+prefix_absent (a ∷ []) word (Some prefix) s more = absurd (ends_as s.statement)
+prefix_absent (a ∷ b ∷ []) word (Some prefix) s more = absurd (ends_as s.statement)
+prefix_absent (a ∷ b ∷ c ∷ []) word (Some prefix) s more = absurd (ends_as s.statement)
+prefix_absent (a ∷ b ∷ c ∷ d ∷ e ∷ rest) word (Some prefix) s more = absurd (ends_as s.statement)

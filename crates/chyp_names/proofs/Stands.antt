@@ -1,5 +1,6 @@
 -- What a statement stands for, by its keyword and its terms.
 use Rattle.std.proofs.Common.{◌≡◌, ℕ, zero, suc, ◌-◌, ◌<◌, ◌≤◌, List, [], ◌∷◌, ◌++◌, length, get_or, slice_get, Option, None, Some, IfSome, refl, sym, ap, subst, ◌∙◌, Bool, true, false, ◌&&◌, true≢false, is_some, cond, arith, All, Result, Ok, Err, OnOk, IsTrue}
+use Rattle.std.specs.Option.{option_map}
 use Rattle.std.proofs.lemmas.List.Elements.{All-nil}
 use Rattle.std.proofs.lemmas.List.{length-replicate}
 use Rattle.chyp_base.specs.declared.verdict.Verdict.{Verdict}
@@ -15,11 +16,12 @@ use Rattle.chyp_term.specs.Morphism.{Morphism}
 use Rattle.chyp_env.specs.Environment.{Sense, Binding, binding_of, is_bound}
 use Rattle.chyp_env.specs.Expansion.{plain_wires}
 use Rattle.chyp_term.specs.Limits.{most_ports}
+use Rattle.chyp_env.specs.Import.{all_passed_on, new_in}
 use Rattle.chyp_env.specs.Site.{Imported, there, Site}
-use Rattle.chyp_syntax.specs.Words.{Word, keyword_in}
+use Rattle.chyp_syntax.specs.Words.{Word, bytes_at, keyword_in}
 use Rattle.chyp_env.specs.Sound.{IsSoundSense}
 use Rattle.chyp_names.specs.declared.body.Body.{Body}
-use Rattle.chyp_names.specs.Binding.{Binds, TakesIn, anew, IsRewrite, StandsFor, a_declared_generator, a_term, a_rule, a_proved_rewrite, an_unproved_rewrite, a_broken_statement, Elaborates, IsOutcome}
+use Rattle.chyp_names.specs.Binding.{Binds, TakesIn, anew, imports, IsRewrite, StandsFor, a_declared_generator, a_term, a_rule, a_proved_rewrite, an_unproved_rewrite, a_broken_statement, Elaborates, IsOutcome}
 use Rattle.chyp_names.specs.Elaboration.{terms_of, Passes}
 use Rattle.chyp_names.specs.Outcome.{terms_in, refused_sense, sense_for, HasTermsFor}
 use Rattle.chyp_names.specs.Typing.{AreTypedAlike}
@@ -199,3 +201,14 @@ module _ (home : List ℕ) (words : List Word) (env : List Binding) (imported : 
 pub takes_accepted : (imported : Imported) (verdict : Verdict) → TakesIn imported verdict → verdict ≡ Accepted
 takes_accepted (there env) Accepted takes = refl
 takes_accepted _ _ takes = absurd takes
+
+-- an import binds what is new of the module, behind its prefix
+pub import_binds : {T E : Type 0} (words : List Word) (env bs new : List Binding) (word : ℕ) (as_word token : Option ℕ) (prefix : Option (List ℕ)) (result : Result T E)
+    → IsSentence words (inclusion word as_word) → token ≡ as_word → prefix ≡ option_map (bytes_at words) token
+    → OnOk result (new ≡ env ++ new_in env (all_passed_on prefix bs)) → (home : List ℕ) (imported : Imported) (number : ℕ) → imported ≡ there bs
+    → OnOk result (Binds (record { scope = record { words = words; env = env }; home = home; imported = imported }) number Accepted new)
+import_binds words env bs new word as_word token prefix (Err x) s t p is home imported number from = tt
+import_binds words env bs new word as_word token prefix (Ok x) s t p is home imported number from =
+    let whole = is ∙ ap (λ q. env ++ new_in env (all_passed_on q bs)) (p ∙ ap (option_map (bytes_at words)) t) in
+    subst (Binds (record { scope = record { words = words; env = env }; home = home; imported = imported }) number Accepted) (sym whole)
+    (imports {word = word} {as_word = as_word} refl s from)

@@ -118,8 +118,8 @@ pub record Passes (site : Site) (tree : StatementTree) : Type 0 where
 pub data IsRefused (site : Site) (tree : StatementTree) : Verdict → Type 0 where
   declared : IsTrue (is_declared site.scope) → IsRefused site tree (Declared 1)
   at_import : {verdict : Verdict} → is_declared site.scope ≡ false → import_fault site tree ≡ Some verdict → IsRefused site tree verdict
-  at_name : {verdict : Verdict} → is_declared site.scope ≡ false → import_fault site tree ≡ None → first_fault site.scope tree ≡ Some verdict
-      → IsRefused site tree verdict
+  at_name : {verdict : Verdict} → is_declared site.scope ≡ false → import_fault site tree ≡ None
+      → first_fault site.scope tree ≡ Some verdict → IsRefused site tree verdict
   too_big : is_declared site.scope ≡ false → import_fault site tree ≡ None → first_fault site.scope tree ≡ None
       → ¬ AreWithinLimits tree (terms_of site tree)
       → IsRefused site tree TooBig

@@ -237,9 +237,11 @@ pub fn bind(
 ) -> Result<(), NoMemory>
     requires state { IsImportState (site_of (record { words = chunk.now; env = env.old }) «module».now import.now) }
     requires origins { AgreeOnOrigins env.old (imported_of import.now) }
-    requires outcome { IsOutcome (site_of (record { words = chunk.now; env = env.old }) «module».now import.now) (option_copied body) verdict.now }
+    requires outcome { IsOutcome
+        (site_of (record { words = chunk.now; env = env.old }) «module».now import.now) (option_copied body) verdict.now }
     requires typed { IfSome (option_copied body) (λ body. AreTypedAlike body.terms) }
-    ensures ok { OnOk result (Binds (site_of (record { words = chunk.now; env = env.old }) «module».now import.now) index verdict.now env.new) }
+    ensures ok { OnOk result
+        (Binds (site_of (record { words = chunk.now; env = env.old }) «module».now import.now) index verdict.now env.new) }
     ensures err { OnErr result (env.new ≡ env.old) }
 {
     if let Some(imported) = taken_in(import, verdict) {
@@ -274,7 +276,8 @@ pub fn bind_owned(
     requires origins { AgreeOnOrigins env.old (imported_of import.now) }
     requires outcome { IsOutcome (site_of (record { words = chunk.now; env = env.old }) «module».now import.now) body verdict.now }
     requires typed { IfSome body (λ body. AreTypedAlike body.terms) }
-    ensures ok { OnOk result (Binds (site_of (record { words = chunk.now; env = env.old }) «module».now import.now) index verdict.now env.new) }
+    ensures ok { OnOk result
+        (Binds (site_of (record { words = chunk.now; env = env.old }) «module».now import.now) index verdict.now env.new) }
     ensures err { OnErr result (env.new ≡ env.old) }
 {
     if let Some(imported) = taken_in(import, verdict) {

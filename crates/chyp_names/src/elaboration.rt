@@ -27,12 +27,7 @@ use std::alloc::Global;
 
 // Refuses a statement by its names: the one that it would bind, those that it would import, or one that it
 // uses.
-fn check_names(
-    alloc: Global,
-    ast: &Ast,
-    scope: &Scope<'_>,
-    import: &ImportState<'_>,
-) -> Result<(), ElabError>
+fn check_names(ast: &Ast, scope: &Scope<'_>, import: &ImportState<'_>) -> Result<(), ElabError>
     requires sentence { IsSentence scope.now.words (statement_of ast.now) }
     ensures fresh { OnOk result (is_declared scope.now ≡ false) }
     ensures fits { OnOk result ((home : List ℕ) → import_fault (site_of scope.now home import.now) (statement_of ast.now) ≡ None) }
@@ -43,7 +38,7 @@ fn check_names(
     if scope.is_declared() {
         return Err(ElabError::Refused(Verdict::Declared { token: 1 }));
     }
-    if let Some(verdict) = import_fault(alloc, ast, scope, import)? {
+    if let Some(verdict) = import_fault(ast, scope, import)? {
         return Err(ElabError::Refused(verdict));
     }
     match first_fault(ast, scope) {
@@ -151,7 +146,7 @@ pub fn elaborate(
     ensures refused { (verdict : Verdict) → result ≡ Err (ElabError.Refused verdict) →
         IsRefused (site_of scope.now «module».now import.now) (statement_of ast.now) verdict }
 {
-    check_names(alloc, ast, scope, import)?;
+    check_names(ast, scope, import)?;
     if !is_small(ast, scope) {
         return Err(ElabError::Refused(Verdict::TooBig));
     }

@@ -21,7 +21,7 @@ use Rattle.chyp_names.specs.Elaboration.{Passes, equation_at, equation_of_sense,
 use Rattle.chyp_names.specs.Naming.{in_reason, fault_of, fault_in_reason, fault_or_unknown, names_of_reason, unproved_token, unproved_use, uses_in, uses_in_goal, uses_in_step, uses_of}
 use Rattle.chyp_simp.specs.Laws.{IsUsable}
 use Rattle.chyp_verdicts.specs.Steps.{AreUsable, rules_of}
-use Rattle.chyp_verdicts.proofs.Bindings.{Contains-from_cons, Contains-map, All-from, binding-found}
+use Rattle.chyp_env.proofs.Bindings.{Contains-from_cons, Contains-map, All-from, binding-found}
 use Rattle.chyp_verdicts.proofs.Derivations.{Equation}
 
 -- where a filter keeps nothing, nothing passes it

@@ -8,7 +8,7 @@ use Rattle.chyp_term.specs.Rewriting.{RewritesInContext}
 use Rattle.chyp_theory.proofs.Wires.{derivation_equation}
 use Rattle.chyp_verdicts.specs.Rules.{Permits, IsDerived}
 use Rattle.chyp_verdicts.specs.Standing.{Origin, Standing}
-use Rattle.chyp_verdicts.proofs.Bindings.{Contains-from_cons}
+use Rattle.chyp_env.proofs.Bindings.{Contains-from_cons}
 
 abbrev pub Equation : Type 0
 Equation = Morphism × Morphism

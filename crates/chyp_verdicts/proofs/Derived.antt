@@ -21,7 +21,7 @@ use Rattle.chyp_verdicts.specs.Judged.{IsJudged}
 use Rattle.chyp_verdicts.specs.Rules.{Cites, IsDerived, IsRewriteOf, Permits, by_name, cited_by, itself}
 use Rattle.chyp_verdicts.specs.Standing.{Means, Origin, Standing}
 use Rattle.chyp_verdicts.specs.Steps.{rules_of}
-use Rattle.chyp_verdicts.proofs.Bindings.{All-from, binding-found, import-all}
+use Rattle.chyp_env.proofs.Bindings.{All-from, binding-found, import-all}
 use Rattle.chyp_verdicts.proofs.Cited.{IsLawThere, cited-law, reason-laws}
 use Rattle.chyp_verdicts.proofs.Derivations.{Equation, derived-along, derived-back, derived-cut}
 use Rattle.chyp_verdicts.proofs.Follows.{ProvedSteps, proved-follows, proved-steps}

@@ -26,7 +26,7 @@ use Rattle.chyp_verdicts.specs.Rules.{Cites, IsRewriteOf, Permits, RestsOn, by_n
 use Rattle.chyp_verdicts.specs.Standing.{Gets, Origin, Standing}
 use Rattle.chyp_verdicts.specs.Steps.{IsVerdictOnSteps, StopsWith, proved, refusal_at, stops, unfinished}
 use Rattle.chyp_verdicts.specs.Texts.{Makes, Stands, at_start, one_more, site, statements_of}
-use Rattle.chyp_verdicts.proofs.Bindings.{binding-found}
+use Rattle.chyp_env.proofs.Bindings.{binding-found}
 use Rattle.chyp_verdicts.proofs.Derived.{AreLawsDerived, binds-derived, rewrite-derived}
 use Rattle.chyp_verdicts.proofs.Known.{Known}
 use Rattle.chyp_verdicts.proofs.SomeBinding.{is_refusal, last-there, refused-is, goals_at}

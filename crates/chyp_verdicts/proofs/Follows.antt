@@ -22,7 +22,7 @@ use Rattle.chyp_names.specs.Typing.{AreTypedAlike}
 use Rattle.chyp_verdicts.specs.Judged.{IsJudged, accepted, by_steps, moves_at, no_sentence, refused}
 use Rattle.chyp_verdicts.specs.Rules.{cited_by, ProvedRewritesFollow}
 use Rattle.chyp_verdicts.specs.Steps.{AreGood, AreUsable, IsVerdictOnSteps, Move, moves_of, proved, rules_of, stops, unfinished}
-use Rattle.chyp_verdicts.proofs.Bindings.{All-from}
+use Rattle.chyp_env.proofs.Bindings.{All-from}
 use Rattle.chyp_verdicts.proofs.Cited.{Contains-flat_map, reasons-usable}
 use Rattle.chyp_verdicts.proofs.Derivations.{Equation, weaken}
 use Rattle.chyp_simp.specs.Laws.{AreEquations, IsUsable}

@@ -1,5 +1,4 @@
 pub mod Known
-pub mod Bindings
 pub mod Derivations
 pub mod Judgements
 pub mod Cited

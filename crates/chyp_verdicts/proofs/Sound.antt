@@ -9,7 +9,7 @@ use Rattle.chyp_env.specs.Sound.{IsSound, IsSoundSense}
 use Rattle.chyp_names.specs.Binding.{Binds, nothing, again, anew, imports, StandsFor}
 use Rattle.chyp_names.specs.Elaboration.{prefix_at}
 use Rattle.chyp_verdicts.specs.Judged.{IsJudged}
-use Rattle.chyp_verdicts.proofs.Bindings.{distinct-import, import-all}
+use Rattle.chyp_env.proofs.Bindings.{distinct-import, import-all}
 use Rattle.chyp_verdicts.proofs.Known.{Known}
 use Rattle.chyp_verdicts.proofs.OneBinding.{stands-once}
 use Rattle.chyp_verdicts.proofs.SomeBinding.{some-sense}

@@ -6,7 +6,8 @@ use Rattle.chyp_names.proofs.binding.bind_owned.Goals as goal
 
 pub meaning-requires : goal.meaning-requires
 meaning-requires c =
-    has_terms c.args.module.now c.args.chunk.now c.args.env.now (imported_of c.args.import.now) c.args.body c.args.verdict.now c.in-Some-unbound.name.now c.requires.outcome c.in-Some-unbound.ensures.name c.keyword.result
+    has_terms c.args.module.now c.args.chunk.now c.args.env.now (imported_of c.args.import.now) c.args.body
+    c.args.verdict.now c.in-Some-unbound.name.now c.requires.outcome c.in-Some-unbound.ensures.name c.keyword.result
     c.into_terms-terms.result.items c.keyword.ensures c.into_terms-terms.ensures
 
 pub bind_name-requires-clause-spelled : goal.bind_name-requires-clause-spelled
@@ -14,12 +15,14 @@ bind_name-requires-clause-spelled c = declared_spelled c.args.chunk.now c.in-Som
 
 pub bind_name-requires-clause-sound : goal.bind_name-requires-clause-sound
 bind_name-requires-clause-sound c =
-    sense_sound c.args.module.now c.args.chunk.now c.args.env.now (imported_of c.args.import.now) c.args.body c.args.verdict.now c.in-Some-unbound.name.now c.requires.outcome c.in-Some-unbound.ensures.name
+    sense_sound c.args.module.now c.args.chunk.now c.args.env.now (imported_of c.args.import.now) c.args.body
+    c.args.verdict.now c.in-Some-unbound.name.now c.requires.outcome c.in-Some-unbound.ensures.name
     (sense_of c.in_ok-meaning.meaning) c.keyword.result c.into_terms-terms.result.items c.keyword.ensures c.into_terms-terms.ensures c.in_ok-meaning.ensures c.requires.typed
 
 pub returns-clause-ok : goal.returns-clause-ok
 returns-clause-ok c =
-    sense_binds c.args.module.now c.args.chunk.now c.args.env.now (imported_of c.args.import.now) c.args.body c.args.verdict.now c.in-Some-unbound.name.now c.requires.outcome c.in-Some-unbound.ensures.name
+    sense_binds c.args.module.now c.args.chunk.now c.args.env.now (imported_of c.args.import.now) c.args.body
+    c.args.verdict.now c.in-Some-unbound.name.now c.requires.outcome c.in-Some-unbound.ensures.name
     c.args.index (sense_of c.in_ok-meaning.meaning) c.keyword.result c.into_terms-terms.result.items c.bind_name.new.env c.bind_name.result c.keyword.ensures c.into_terms-terms.ensures
     c.in_ok-meaning.ensures
     c.in-Some-unbound.ensures.free c.bind_name.ensures.ok

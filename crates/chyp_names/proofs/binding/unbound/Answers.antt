@@ -8,4 +8,5 @@ pub returns-in_err-name-clause-none : goal.returns-in_err-name-clause-none
 returns-in_err-name-clause-none c = rw c.from_residual.ensures (λ home imported number verdict none. nothing (sym c.in_err-name.ensures) none)
 
 pub returns-in-Some-clause-none : goal.returns-in-Some-clause-none
-returns-in-Some-clause-none c = λ home imported number verdict none. again (sym c.in_ok-name.ensures) (found_bound c.args.env.now c.in_ok-name.name.now (entry_of c.in-Some.field-0.now) c.in-Some.ensures.some)
+returns-in-Some-clause-none c =
+    λ home imported number verdict none. again (sym c.in_ok-name.ensures) (found_bound c.args.env.now c.in_ok-name.name.now (entry_of c.in-Some.field-0.now) c.in-Some.ensures.some)

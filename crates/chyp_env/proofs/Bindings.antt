@@ -98,7 +98,7 @@ cancel : (p a b : List ℕ) → p ++ a ≡ p ++ b → a ≡ b
 cancel [] a b e = e
 cancel (x ∷ p) a b e = cancel p a b cc
 
-prefixed-once : (prefix : Option (List ℕ)) (a b : List ℕ) → prefixed prefix a ≡ prefixed prefix b → a ≡ b
+pub prefixed-once : (prefix : Option (List ℕ)) (a b : List ℕ) → prefixed prefix a ≡ prefixed prefix b → a ≡ b
 prefixed-once None a b e = e
 prefixed-once (Some p) a b e = cancel (codes ".") a b (cancel p (codes "." ++ a) (codes "." ++ b) e)
 
@@ -126,7 +126,7 @@ not-false : (b : Bool) → not b ≡ true → b ≡ false
 not-false true e = absurd (false≢true e)
 not-false false e = refl
 
-new-unbound : (env bs : List Binding) (b : Binding) → Contains (new_in env bs) b → is_bound env b.name ≡ false
+pub new-unbound : (env bs : List Binding) (b : Binding) → Contains (new_in env bs) b → is_bound env b.name ≡ false
 new-unbound env bs b c = not-false (is_bound env b.name) (Contains-from_filter (λ (x : Binding). not (is_bound env x.name)) bs b c).1
 
 -- names stay distinct where an import binds those that aren't bound already
