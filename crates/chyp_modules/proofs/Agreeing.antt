@@ -11,7 +11,7 @@ use Rattle.chyp_env.specs.Environment.{Binding}
 use Rattle.chyp_env.specs.Site.{Imported, Site}
 use Rattle.chyp_verdicts.specs.Standing.{Gets}
 use Rattle.chyp_env.proofs.Bindings.{Contains-cons, Contains-from_cons, names-eq, names-same}
-use Rattle.chyp_modules.specs.Checking.{AreAllWanted, AreWanted, Gives, HaveStatements, IsWanted, Result, all_checked, long_module, long_text, many_modules, of_more, of_none}
+use Rattle.chyp_modules.specs.Checking.{AreAllWanted, AreWanted, Gives, HasChecks, HaveStatements, IsWanted, Result, all_checked, long_module, long_text, many_modules, of_more, of_none}
 use Rattle.chyp_modules.specs.Import.{Imports, LeadsTo, Reaches, at_once, by_way_of}
 use Rattle.chyp_modules.specs.Library.{IsModule, Library, Module, library_of, with_main}
 use Rattle.chyp_modules.specs.Modules.{AreVerdicts, Finds, Makes, Stands, at_start, no_import, of_circle, of_module as found, of_none as absent, one_more, standing, stands}
@@ -135,6 +135,14 @@ wanted-statements-agree one other names n agree w h =
     each : (name : List ℕ) → ([] ≡ name) ⊎ Contains names name → one name ≡ other name
     each name (inl e) = subst (λ x. one x ≡ other x) e agree.here
     each name (inr i) = agree.below name (w.each name i).1.reached
+
+-- as many statements are checked in both
+pub checks-agree : (one other : Library) (checks : ℕ) → AgreeFrom one other [] → HasChecks one checks → HasChecks other checks
+checks-agree one other checks agree h = record {
+  names = h.names;
+  wanted = all-wanted-agree one other h.names agree h.wanted;
+  have = wanted-statements-agree one other h.names checks agree h.wanted.0 h.have;
+}
 
 -- the text gives the same in both
 pub gives-agrees : (one other : Library) (text : List ℕ) (result : Result) → AgreeFrom (with_main one text) (with_main other text) [] → Gives one text result → Gives other text result

@@ -6,6 +6,7 @@ pub mod Exist
 pub mod Verdicts
 pub mod Meanings
 pub mod Generators
+pub mod Named
 pub mod Agreeing
 pub mod Explaining
 pub mod Checking

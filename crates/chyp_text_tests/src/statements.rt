@@ -98,12 +98,25 @@ fn share(alloc: Global, env: &mut Env, chunk: &ChunkView<'_>, body: &Body) -> Re
 {
     let main = Name::new(alloc, "")?;
     let import = ImportState::NotImport;
-    bind(env, &main, 0, chunk, &import, Some(body), &Verdict::Accepted)?;
+    bind(
+        env,
+        &main,
+        0,
+        chunk,
+        &import,
+        Some(body),
+        &Verdict::Accepted,
+    )?;
     Ok(())
 }
 
 /// Binds the name of a statement that is accepted where it has a body, and refused where it has none.
-fn hand_over(alloc: Global, env: &mut Env, chunk: &ChunkView<'_>, body: Option<Body>) -> Result<(), Fail>
+fn hand_over(
+    alloc: Global,
+    env: &mut Env,
+    chunk: &ChunkView<'_>,
+    body: Option<Body>,
+) -> Result<(), Fail>
     requires plain { ¬ IsRewrite chunk.now }
     requires body { IfSome body (Elaborates (site_of (record { words = chunk.now; env = env.old }) [] ImportState.NotImport)) }
     requires typed { IfSome body (λ body. AreTypedAlike body.terms) }
@@ -119,7 +132,12 @@ fn hand_over(alloc: Global, env: &mut Env, chunk: &ChunkView<'_>, body: Option<B
 }
 
 /// Binds the name of a statement that is no rewrite: the first one, which is accepted, keeps its body.
-fn bind_name(alloc: Global, env: &mut Env, chunk: &ChunkView<'_>, body: Option<Body>) -> Result<(), Fail>
+fn bind_name(
+    alloc: Global,
+    env: &mut Env,
+    chunk: &ChunkView<'_>,
+    body: Option<Body>,
+) -> Result<(), Fail>
     requires plain { ¬ IsRewrite chunk.now }
     requires body { IfSome body (Elaborates (site_of (record { words = chunk.now; env = env.old }) [] ImportState.NotImport)) }
     requires typed { IfSome body (λ body. AreTypedAlike body.terms) }
@@ -236,7 +254,8 @@ const STATEMENTS: [(&str, &str); 6] = [
 ];
 
 // Each name with what it stands for then.
-const SENSES: &str = "m: m | left: ((m * [0]) ; m) | assoc: ((m * [0]) ; m) to (([0] * m) ; m) | x: broken | w: free | ";
+const SENSES: &str =
+    "m: m | left: ((m * [0]) ; m) | assoc: ((m * [0]) ; m) to (([0] * m) ; m) | x: broken | w: free | ";
 
 /// Binds the names of the statements, each of which means what its words say.
 fn bind_all(alloc: Global, env: &mut Env) -> Result<(), Fail> {

@@ -1,0 +1,4 @@
+mod Lists
+mod Reading
+mod Statements
+mod Texts
