@@ -47,58 +47,76 @@ const GENERATORS: [(&str, usize, usize); 7] = [
     ("p.f", 1, 1),
 ];
 
+// Terms with their texts, and how the texts are read.
+const TERMS: [(&str, &str, &str); 18] = [
+    ("f", "f", "f"),
+    ("p.f f ;", "p.f ; f", "(p.f ; f)"),
+    // Chains of any bracketing are flat, and are halved where they are read.
+    ("f f ; f ;", "f ; f ; f", "(f ; (f ; f))"),
+    ("f f f ; ;", "f ; f ; f", "(f ; (f ; f))"),
+    ("f f * f *", "f * f * f", "(f * (f * f))"),
+    ("f f f * *", "f * f * f", "(f * (f * f))"),
+    ("f f ; f f ; ;", "f ; f ; f ; f", "((f ; f) ; (f ; f))"),
+    ("f g * f g * ;", "f * g ; f * g", "((f * g) ; (f * g))"),
+    ("f f ; g *", "(f ; f) * g", "((f ; f) * g)"),
+    ("g f f ; *", "g * (f ; f)", "(g * (f ; f))"),
+    (
+        "g f f g * sw ; m ; * *",
+        "g * f * (f * g ; sw ; m)",
+        "(g * (f * ((f * g) ; ([1, 0] ; m))))",
+    ),
+    ("id0", "id0", "[]"),
+    ("id", "id", "[0]"),
+    ("sw", "sw", "[1, 0]"),
+    ("id2", "sw[0,1]", "[0, 1]"),
+    ("turn", "sw[1,2,0]", "[1, 2, 0]"),
+    ("f id *", "f * id", "(f * [0])"),
+    ("s id0 ; t *", "(s ; id0) * t", "((s ; []) * t)"),
+];
+
+/// Fails unless these terms have their texts, which are read so.
+fn check_terms(alloc: Global, env: &Env) -> Result<(), Fail> {
+    for (words, text, back) in TERMS {
+        check(alloc, env, &term(alloc, words)?, (text, back))?;
+    }
+    Ok(())
+}
+
 #[test]
 fn printed_terms_are_read_back(rt: HostRuntime) -> Result<(), Fail> {
-    let alloc = rt.alloc();
-    let env = bound(alloc, &GENERATORS)?;
-    for (words, text, back) in [
-        ("f", "f", "f"),
-        ("p.f f ;", "p.f ; f", "(p.f ; f)"),
-        // Chains of any bracketing are flat, and are halved where they are read.
-        ("f f ; f ;", "f ; f ; f", "(f ; (f ; f))"),
-        ("f f f ; ;", "f ; f ; f", "(f ; (f ; f))"),
-        ("f f * f *", "f * f * f", "(f * (f * f))"),
-        ("f f f * *", "f * f * f", "(f * (f * f))"),
-        ("f f ; f f ; ;", "f ; f ; f ; f", "((f ; f) ; (f ; f))"),
-        ("f g * f g * ;", "f * g ; f * g", "((f * g) ; (f * g))"),
-        ("f f ; g *", "(f ; f) * g", "((f ; f) * g)"),
-        ("g f f ; *", "g * (f ; f)", "(g * (f ; f))"),
-        (
-            "g f f g * sw ; m ; * *",
-            "g * f * (f * g ; sw ; m)",
-            "(g * (f * ((f * g) ; ([1, 0] ; m))))",
-        ),
-        ("id0", "id0", "[]"),
-        ("id", "id", "[0]"),
-        ("sw", "sw", "[1, 0]"),
-        ("id2", "sw[0,1]", "[0, 1]"),
-        ("turn", "sw[1,2,0]", "[1, 2, 0]"),
-        ("f id *", "f * id", "(f * [0])"),
-        ("s id0 ; t *", "(s ; id0) * t", "((s ; []) * t)"),
-    ] {
-        check(alloc, &env, &term(alloc, words)?, (text, back))?;
+    let env = bound(rt.alloc(), &GENERATORS)?;
+    let checked = check_terms(rt.alloc(), &env);
+    drop(env);
+    checked
+}
+
+// Terms whose graphs are read back as terms with these texts.
+const EXTRACTED: [(&str, &str); 8] = [
+    ("f g * sw ;", "f * g ; sw"),
+    ("sw g f * ;", "sw ; g * f"),
+    ("id0", "id0"),
+    ("f id *", "f * id"),
+    ("f s *", "f * s"),
+    ("sw sw ;", "id * id"),
+    ("id f *", "sw ; f * id ; sw"),
+    ("turn f g * f * ; m g * ;", "sw[1,2,0] ; f * g * f ; m * g"),
+];
+
+/// Fails unless these are the texts, and each is read as the very term.
+fn check_extracted(alloc: Global, env: &Env) -> Result<(), Fail> {
+    for (words, text) in EXTRACTED {
+        let term = extract(alloc, &graph(alloc, words)?)?;
+        check_itself(alloc, env, &term, text)?;
     }
     Ok(())
 }
 
 #[test]
 fn extracted_terms_are_read_back_themselves(rt: HostRuntime) -> Result<(), Fail> {
-    let alloc = rt.alloc();
-    let env = bound(alloc, &GENERATORS)?;
-    for (words, text) in [
-        ("f g * sw ;", "f * g ; sw"),
-        ("sw g f * ;", "sw ; g * f"),
-        ("id0", "id0"),
-        ("f id *", "f * id"),
-        ("f s *", "f * s"),
-        ("sw sw ;", "id * id"),
-        ("id f *", "sw ; f * id ; sw"),
-        ("turn f g * f * ; m g * ;", "sw[1,2,0] ; f * g * f ; m * g"),
-    ] {
-        let term = extract(alloc, &graph(alloc, words)?)?;
-        check_itself(alloc, &env, &term, text)?;
-    }
-    Ok(())
+    let env = bound(rt.alloc(), &GENERATORS)?;
+    let checked = check_extracted(rt.alloc(), &env);
+    drop(env);
+    checked
 }
 
 /// A text so many times.
@@ -110,21 +128,29 @@ fn repeated(alloc: Global, text: &str, times: u32) -> Result<String, Fail> {
     Ok(all)
 }
 
-#[test]
-fn deep_terms_are_read_back(rt: HostRuntime) -> Result<(), Fail> {
-    let alloc = rt.alloc();
-    // 255 joins in one another, each other one in parentheses.
+/// Fails unless 255 joins in one another are read back, each other one in parentheses.
+fn check_deep(alloc: Global, env: &Env) -> Result<(), Fail> {
     let tail = repeated(alloc, " s ; t *", 127)?;
     let open = repeated(alloc, "(", 127)?;
     let rest = repeated(alloc, " ; s) * t", 127)?;
     let words = format!(in alloc; "s{tail} s ;")?;
     let text = format!(in alloc; "{open}s{rest} ; s")?;
-    check_itself(
-        alloc,
-        &bound(alloc, &GENERATORS)?,
-        &term(alloc, &words)?,
-        &text,
-    )
+    check_itself(alloc, env, &term(alloc, &words)?, &text)
+}
+
+#[test]
+fn deep_terms_are_read_back(rt: HostRuntime) -> Result<(), Fail> {
+    let env = bound(rt.alloc(), &GENERATORS)?;
+    let checked = check_deep(rt.alloc(), &env);
+    drop(env);
+    checked
+}
+
+/// Fails unless a term of this name twice is read back.
+fn check_name(alloc: Global, env: &Env, name: &str) -> Result<(), Fail> {
+    let words = format!(in alloc; "{name} {name} ;")?;
+    let text = format!(in alloc; "{name} ; {name}")?;
+    check_itself(alloc, env, &term(alloc, &words)?, &text)
 }
 
 #[test]
@@ -133,9 +159,9 @@ fn long_names_are_read_back(rt: HostRuntime) -> Result<(), Fail> {
     // 100,000 bytes.
     let name = repeated(alloc, "long", 25_000)?;
     let env = bound(alloc, &[(name.as_str(), 1, 1)])?;
-    let words = format!(in alloc; "{name} {name} ;")?;
-    let text = format!(in alloc; "{name} ; {name}")?;
-    check_itself(alloc, &env, &term(alloc, &words)?, &text)
+    let checked = check_name(alloc, &env, &name);
+    drop(env);
+    checked
 }
 
 #[test]

@@ -57,18 +57,26 @@ fn add(alloc: Global, env: &mut Env, name: &str, shape: Shape) -> Result<(), Fai
     Ok(env.insert(entry)?)
 }
 
+/// Binds each of these generators by its own name.
+fn add_all(alloc: Global, env: &mut Env, generators: &[(&str, usize, usize)]) -> Result<(), Fail> {
+    for generator in generators {
+        let shape = shape(alloc, generator.1, generator.2)?;
+        add(alloc, env, generator.0, shape)?;
+    }
+    Ok(())
+}
+
 /// The environment in which each of these generators is bound by its own name.
 pub(crate) fn bound(alloc: Global, generators: &[(&str, usize, usize)]) -> Result<Env, Fail> {
     let mut env = Env::new(alloc);
-    for generator in generators {
-        add(
-            alloc,
-            &mut env,
-            generator.0,
-            shape(alloc, generator.1, generator.2)?,
-        )?;
+    match add_all(alloc, &mut env, generators) {
+        Ok(()) => Ok(env),
+        Err(fail) => {
+            // As a call, it takes one step of the proof.
+            drop(env);
+            Err(fail)
+        }
     }
-    Ok(env)
 }
 
 /// The tokens of a text.
@@ -97,24 +105,35 @@ fn is_small(tree: &TermAst, scope: &Scope<'_>) -> bool
     sizes.size <= MOST_SIZE && sizes.depth <= MOST_DEPTH && sizes.generators <= MOST_GENERATORS
 }
 
+/// A known term in words.
+fn told_known(alloc: Global, known: KnownTerm) -> Result<String, Fail> {
+    let words = told(alloc, known.term());
+    drop(known);
+    words
+}
+
 /// The term of a tree in words.
 fn meant(alloc: Global, tree: &TermAst, scope: &Scope<'_>) -> Result<String, Fail> {
     if !is_small(tree, scope) {
         return Err(Fail::new("too big"));
     }
     let plain = scope.env().plain_wires()?;
-    match KnownTerm::of_tree(alloc, &plain, tree, scope) {
-        Ok(known) => told(alloc, known.term()),
+    let known = KnownTerm::of_tree(alloc, &plain, tree, scope);
+    drop(plain);
+    match known {
+        Ok(known) => told_known(alloc, known),
         Err(_) => Err(Fail::new("no type")),
     }
 }
 
 /// The term of a definition in words.
-fn defined(alloc: Global, ast: &Ast, scope: &Scope<'_>) -> Result<String, Fail> {
-    match ast {
+fn defined(alloc: Global, ast: Ast, scope: &Scope<'_>) -> Result<String, Fail> {
+    let words = match &ast {
         Ast::LetDecl { term, .. } => meant(alloc, term, scope),
         _ => Err(Fail::new("no definition")),
-    }
+    };
+    drop(ast);
+    words
 }
 
 /// The term of this text in words, where names stand for what they do in the environment.
@@ -127,7 +146,7 @@ pub(crate) fn read(alloc: Global, env: &Env, term: &str) -> Result<String, Fail>
     let tokens = tokens_of(alloc, text)?;
     let chunk = lent(text, &tokens);
     match chunk.parse(alloc) {
-        Ok(ast) => defined(alloc, &ast, &Scope::new(&chunk, env)),
+        Ok(ast) => defined(alloc, ast, &Scope::new(&chunk, env)),
         Err(_) => Err(Fail::new("no sentence")),
     }
 }

@@ -74,7 +74,10 @@ fn composed(alloc: Global, first: &str, second: &str) -> Result<Graph, Fail> {
 fn graphs_follow_each_other(rt: HostRuntime) -> Result<(), Fail> {
     let alloc = rt.alloc();
     let graph = composed(alloc, "f g *", "sw")?;
-    assert_eq!(rt; told(alloc, &graph)?.as_str(), "4 wires; f 0 -> 1; g 2 -> 3; 0 2 -> 3 1");
+    assert_eq!(rt;
+        told(alloc, &graph)?.as_str(),
+        "4 wires; f 0 -> 1; g 2 -> 3; 0 2 -> 3 1"
+    );
     Ok(())
 }
 

@@ -1,10 +1,12 @@
 // Steps that are judged.
 ghost use Rattle.std.specs.Prelude.{◌≡◌, ◌≤◌, IfOk, IsTrue};
 ghost use Rattle.chyp_term.specs.Derivation.{IsEquation};
+ghost use Rattle.chyp_term.specs.Equation.{equation_of};
 ghost use Rattle.chyp_term.specs.Limits.{IsWithinLimits};
 ghost use Rattle.chyp_term.specs.Morphism.{IsTyped};
 ghost use Rattle.chyp_term.specs.Step.{reason_of};
 ghost use Rattle.chyp_term.specs.Term.{morphism_of};
+ghost use Rattle.chyp_simp.specs.Laws.{IsUsable};
 ghost use Rattle.chyp_judge.specs.Judged.{CanBeJudged};
 
 use crate::diagrams::{checked, rewired, typed};
@@ -23,16 +25,23 @@ pub(crate) fn have_one_type(alloc: Global, from: &Term, to: &Term) -> bool
     }
 }
 
-/// The step by the rule of these sides.
-fn by_rule(alloc: Global, left: &str, right: &str) -> Result<Step, Fail>
-    ensures { IfOk result (λ step. CanBeJudged (reason_of step)) }
+/// The rule of these sides.
+pub(crate) fn rule(alloc: Global, left: &str, right: &str) -> Result<Equation, Fail>
+    ensures { IfOk result (λ rule. IsUsable (equation_of rule)) }
 {
     let left = typed(alloc, left)?;
     let right = typed(alloc, right)?;
     if have_one_type(alloc, &left, &right) {
-        return Ok(Step::ByRule(Equation { left, right }));
+        return Ok(Equation { left, right });
     }
     Err(Fail::new("sides of two types"))
+}
+
+/// The step by the rule of these sides.
+fn by_rule(alloc: Global, left: &str, right: &str) -> Result<Step, Fail>
+    ensures { IfOk result (λ step. CanBeJudged (reason_of step)) }
+{
+    Ok(Step::ByRule(rule(alloc, left, right)?))
 }
 
 /// The judgement on a step from one term to another.
@@ -65,11 +74,12 @@ fn told_by_laws(alloc: Global, from: &str, to: &str) -> Result<String, Fail> {
 #[test]
 fn steps_by_the_laws_are_judged(rt: HostRuntime) -> Result<(), Fail> {
     let alloc = rt.alloc();
-    for (from, to, wanted) in [
-        ("f", "g", "Differs"),
-        ("f g * sw ;", "sw g f * ;", "Good"),
-    ] {
-        assert_eq!(rt; told_by_laws(alloc, from, to)?.as_str(), wanted, "{from} to {to}");
+    for (from, to, wanted) in [("f", "g", "Differs"), ("f g * sw ;", "sw g f * ;", "Good")] {
+        assert_eq!(rt;
+            told_by_laws(alloc, from, to)?.as_str(),
+            wanted,
+            "{from} to {to}"
+        );
     }
     Ok(())
 }
@@ -85,32 +95,69 @@ fn told(alloc: Global, ends: Pair, sides: Pair) -> Result<String, Fail> {
 }
 
 const SIXTEEN: &str = "s s * s * s * s * s * s * s * s * s * s * s * s * s * s * s *";
+
 const SEVENTEEN: &str = "s s * s * s * s * s * s * s * s * s * s * s * s * s * s * s * s *";
 
 // Steps, with the sides of the rules that they go by, and the judgements on them.
 const STEPS: [(Pair, Pair, &str); 20] = [
-    (("f g ; h ;", "h g ; f ;"), ("f h *", "h f *"), "NoRewrite { occurrences: 0 }"),
+    (
+        ("f g ; h ;", "h g ; f ;"),
+        ("f h *", "h f *"),
+        "NoRewrite { occurrences: 0 }",
+    ),
     (("u u * m ;", "u"), ("u id * m ;", "id"), "Good"),
     (("f", "u f * m ;"), ("id", "u id * m ;"), "Good"),
     (("f", "f s *"), ("id0", "s"), "Good"),
     (("f", "f"), ("id0", "s"), "NoRewrite { occurrences: 1 }"),
-    (("f", "f"), ("id id *", "sw"), "NoRewrite { occurrences: 0 }"),
+    (
+        ("f", "f"),
+        ("id id *", "sw"),
+        "NoRewrite { occurrences: 0 }",
+    ),
     (("f f *", "f f * sw ;"), ("f f *", "f f * sw ;"), "Good"),
-    (("f f ;", "f f ;"), ("f f *", "f f *"), "NoRewrite { occurrences: 0 }"),
+    (
+        ("f f ;", "f f ;"),
+        ("f f *", "f f *"),
+        "NoRewrite { occurrences: 0 }",
+    ),
     (("f f ; f ;", "g f ;"), ("f f ;", "g"), "Good"),
     (("f f ; f ;", "f g ;"), ("f f ;", "g"), "Good"),
-    (("f f ; f ;", "g g ;"), ("f f ;", "g"), "NoRewrite { occurrences: 2 }"),
+    (
+        ("f f ; f ;", "g g ;"),
+        ("f f ;", "g"),
+        "NoRewrite { occurrences: 2 }",
+    ),
     // Occurrences that leave a difference are passed over.
     (("f f ; f ; f ;", "f f ; g ;"), ("f f ;", "g"), "Good"),
     (("f f ; f ; f ;", "f g ; f ;"), ("f f ;", "g"), "Good"),
-    (("f f ; f ; f ;", "f h ; f ;"), ("f f ;", "g"), "NoRewrite { occurrences: 3 }"),
+    (
+        ("f f ; f ; f ;", "f h ; f ;"),
+        ("f f ;", "g"),
+        "NoRewrite { occurrences: 3 }",
+    ),
     (("f f * f *", "f f * g *"), ("f", "g"), "Good"),
-    (("f f * f *", "f g * h *"), ("f", "g"), "NoRewrite { occurrences: 3 }"),
+    (
+        ("f f * f *", "f g * h *"),
+        ("f", "g"),
+        "NoRewrite { occurrences: 3 }",
+    ),
     (("id id * id *", "id id * f *"), ("id", "f"), "Good"),
-    (("id id * id *", "g f * f *"), ("id", "f"), "NoRewrite { occurrences: 3 }"),
+    (
+        ("id id * id *", "g f * f *"),
+        ("id", "f"),
+        "NoRewrite { occurrences: 3 }",
+    ),
     // Scalars have many occurrences, or too many placements.
-    ((SIXTEEN, SIXTEEN), ("s s * s * s *", "s"), "NoRewrite { occurrences: 43680 }"),
-    ((SEVENTEEN, SEVENTEEN), ("s s * s * s *", "s"), "TooWide { placements: 83521 }"),
+    (
+        (SIXTEEN, SIXTEEN),
+        ("s s * s * s *", "s"),
+        "NoRewrite { occurrences: 43680 }",
+    ),
+    (
+        (SEVENTEEN, SEVENTEEN),
+        ("s s * s * s *", "s"),
+        "TooWide { placements: 83521 }",
+    ),
 ];
 
 #[test]

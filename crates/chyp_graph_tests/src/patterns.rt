@@ -22,7 +22,10 @@ fn graphs_have_their_components(rt: HostRuntime) -> Result<(), Fail> {
         ("f g ;", "2 edges: Edge(EdgeId(0))"),
         ("f g * sw ;", "2 edges: Edge(EdgeId(0)) Edge(EdgeId(1))"),
         ("f u * m ; s *", "4 edges: Edge(EdgeId(0)) Edge(EdgeId(3))"),
-        ("id2 f *", "1 edges: Edge(EdgeId(0)) Wire(WireId(0)) Wire(WireId(1))"),
+        (
+            "id2 f *",
+            "1 edges: Edge(EdgeId(0)) Wire(WireId(0)) Wire(WireId(1))",
+        ),
     ] {
         assert_eq!(rt; components(alloc, words)?.as_str(), told);
     }

@@ -1,21 +1,15 @@
 // The n-th rewrites of terms.
 use crate::diagrams::{doubled, told_term, typed};
-use crate::judging::have_one_type;
+use crate::judging::rule;
 use chyp_nth::{Nth, nth_rewrite};
-use chyp_term::Equation;
 use std::alloc::Global;
 use std::test::Fail;
 
 /// The n-th rewrite of the term of these words by the rule of those.
-fn nth(alloc: Global, from: &str, sides: [&str; 2], n: u64) -> Result<Nth, Fail> {
-    let [left, right] = sides;
+fn nth(alloc: Global, from: &str, left: &str, right: &str, n: u64) -> Result<Nth, Fail> {
     let from = typed(alloc, from)?;
-    let left = typed(alloc, left)?;
-    let right = typed(alloc, right)?;
-    if have_one_type(alloc, &left, &right) {
-        return Ok(nth_rewrite(alloc, &from, &Equation { left, right }, n)?);
-    }
-    Err(Fail::new("sides of two types"))
+    let rule = rule(alloc, left, right)?;
+    Ok(nth_rewrite(alloc, &from, &rule, n)?)
 }
 
 /// What the rewrite is, in words.
@@ -39,7 +33,7 @@ fn terms_are_rewritten_at_each_occurrence(rt: HostRuntime) -> Result<(), Fail> {
         ("f", "id", "u id * m ;", 2, "one of 2"),
         (SEVENTEEN, "s s * s * s *", "s", 0, "83521 placements"),
     ] {
-        let nth = nth(alloc, from, [left, right], n)?;
+        let nth = nth(alloc, from, left, right, n)?;
         assert_eq!(rt; told(alloc, &nth)?.as_str(), wanted);
     }
     Ok(())
@@ -52,7 +46,7 @@ fn a_rewrite_that_passes_a_limit_is_not_made(rt: HostRuntime) -> Result<(), Fail
     let chain = doubled(alloc, "f", 7, ";")?;
     let wires = doubled(alloc, "id", 10, "*")?;
     let words = format!(in alloc; "{chain} {wires} *")?;
-    let nth = nth(alloc, &words, ["f", "g"], 0)?;
+    let nth = nth(alloc, &words, "f", "g", 0)?;
     assert_eq!(rt; told(alloc, &nth)?.as_str(), "too big");
     Ok(())
 }

@@ -1,5 +1,5 @@
 -- What comes out of the graph of a term, and what goes into it, has the sorts of the term.
-use Rattle.std.proofs.Common.{sym, ◌∙◌, ap}
+use Rattle.std.proofs.Common.{refl, sym, ◌∙◌, ap}
 use Rattle.chyp_term.specs.Term.{morphism_of}
 use Rattle.chyp_graph.specs.GraphOf.{graph_of}
 use Rattle.chyp_graph.specs.PlainGraph.{input_sorts, output_sorts}
@@ -13,4 +13,4 @@ then-requires-clause-middle c =
     let u = morphism_of c.in_ok-second.second in
     let a = drawn_types t c.in_ok-first.ensures.typed (graph_of t) (draw_s t c.in_ok-first.ensures.typed) in
     let b = drawn_types u c.in_ok-second.ensures.typed (graph_of u) (draw_s u c.in_ok-second.ensures.typed) in
-    ap output_sorts c.in_ok-before.ensures ∙ a.1 ∙ c.if-not-fits.ensures tt ∙ sym b.0 ∙ sym (ap input_sorts c.in_ok-after.ensures)
+    ap output_sorts c.in_ok-before.ensures ∙ a.1 ∙ c.if-not-fits.ensures refl ∙ sym b.0 ∙ sym (ap input_sorts c.in_ok-after.ensures)
