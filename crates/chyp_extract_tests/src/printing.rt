@@ -1,20 +1,31 @@
 // Terms that are printed, and the texts read back.
+ghost use Rattle.std.specs.Prelude.{◌≡◌, [], ◌∷◌, IfOk};
+ghost use Rattle.chyp_base.specs.Sort.{plain};
+ghost use Rattle.chyp_term.specs.Morphism.{permutation};
+ghost use Rattle.chyp_term.specs.Term.{morphism_of};
+
 use crate::reading::{bound, read};
-use crate::words::{graph, permutation, term, told};
+use crate::words::{graph, is_good, permutation, term, told};
+use chyp_base::{Sort, Sorts, Text};
 use chyp_env::Env;
 use chyp_extractor::extract;
-use chyp_print::{OwnNames, print};
-use chyp_term::Term;
+use chyp_print::{OwnNames, print, print_term};
+use chyp_term::{Perm, Places, Term};
 use std::alloc::Global;
+use std::rc::Rc;
 use std::test::Fail;
 
-/// The text of a term.
-fn printed(alloc: Global, term: &Term) -> Result<String, Fail> {
-    let text = print(alloc, term, &OwnNames)?;
+/// A text as a string.
+fn string(text: Text) -> Result<String, Fail> {
     match String::from_utf8(text.into_vec()) {
         Ok(text) => Ok(text),
         Err(_) => Err(Fail::new("no text")),
     }
+}
+
+/// The text of a term.
+fn printed(alloc: Global, term: &Term) -> Result<String, Fail> {
+    string(print(alloc, term, &OwnNames)?)
 }
 
 /// Fails unless the term has this text, and the text is read as what these words tell.
@@ -173,5 +184,52 @@ fn many_places_are_printed(rt: HostRuntime) -> Result<(), Fail> {
     }
     let text = printed(alloc, &permutation(alloc, places)?)?;
     assert_eq!(rt; text.as_str(), "sw[9,8,7,6,5,4,3,2,1,0]");
+    Ok(())
+}
+
+/// Two plain wires.
+fn two(alloc: Global) -> Result<Sorts, Fail>
+    ensures { IfOk result (λ sorts. sorts ≡ plain ∷ plain ∷ []) }
+{
+    let mut sorts = Vec::new(alloc);
+    sorts.push(Sort::plain(alloc)?)?;
+    sorts.push(Sort::plain(alloc)?)?;
+    Ok(Sorts::from_vec(sorts))
+}
+
+/// The permutation that crosses two wires.
+fn crossing(alloc: Global) -> Result<Perm, Fail>
+    ensures { IfOk result (λ perm. perm ≡ 1 ∷ 0 ∷ []) }
+{
+    match Perm::new(Places::from_vec(Vec::from_array(alloc, [1, 0])?)) {
+        Some(perm) => Ok(perm),
+        None => Err(Fail::new("no permutation")),
+    }
+}
+
+/// Two wires that cross.
+fn crossed(alloc: Global) -> Result<Term, Fail>
+    ensures { IfOk result (λ term. morphism_of term ≡ permutation (plain ∷ plain ∷ []) (1 ∷ 0 ∷ [])) }
+{
+    let sorts = two(alloc)?;
+    let perm = Rc::new(alloc, crossing(alloc)?)?;
+    Ok(Term::Perm { sorts, perm })
+}
+
+/// The text of two wires that cross, with the names of an environment.
+fn printed_in(alloc: Global, env: &Env) -> Result<String, Fail> {
+    let term = crossed(alloc)?;
+    if !is_good(alloc, &term) {
+        return Err(Fail::new("no type"));
+    }
+    string(print_term(alloc, &term, env)?)
+}
+
+#[test]
+fn a_term_is_printed_with_the_names_of_an_environment(rt: HostRuntime) -> Result<(), Fail> {
+    let env = bound(rt.alloc(), &GENERATORS)?;
+    let text = printed_in(rt.alloc(), &env);
+    drop(env);
+    assert_eq!(rt; text?.as_str(), "sw");
     Ok(())
 }

@@ -94,7 +94,7 @@ pub(crate) fn term(alloc: Global, words: &str) -> Result<Term, Fail> {
 }
 
 /// Whether a term is typed and within the limits.
-fn is_good(alloc: Global, term: &Term) -> bool
+pub(crate) fn is_good(alloc: Global, term: &Term) -> bool
     ensures typed { IsTrue result → IsTyped (morphism_of term.now) }
     ensures small { IsTrue result → size_of (morphism_of term.now) ≤ most_size }
 {

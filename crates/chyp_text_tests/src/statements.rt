@@ -17,7 +17,7 @@ use chyp_term::{Equation, Step, Term};
 use std::alloc::Global;
 use std::test::Fail;
 
-fn tokens_of(alloc: Global, text: &[u8]) -> Result<Vec<Token>, Fail>
+pub(crate) fn tokens_of(alloc: Global, text: &[u8]) -> Result<Vec<Token>, Fail>
     requires { length text.now ≤ 1000 }
     ensures tokens { IfOk result (λ tokens. AreTokens text.now tokens.items) }
     ensures spans { IfOk result (λ tokens. AreSpans (length text.now) tokens.items) }
@@ -28,7 +28,7 @@ fn tokens_of(alloc: Global, text: &[u8]) -> Result<Vec<Token>, Fail>
     }
 }
 
-fn lent<'a>(text: &'a [u8], tokens: &'a [Token]) -> ChunkView<'a>
+pub(crate) fn lent<'a>(text: &'a [u8], tokens: &'a [Token]) -> ChunkView<'a>
     requires short { length text.now ≤ 1000 }
     requires tokens { AreTokens text.now tokens.now }
     requires spans { AreSpans (length text.now) tokens.now }
@@ -36,7 +36,7 @@ fn lent<'a>(text: &'a [u8], tokens: &'a [Token]) -> ChunkView<'a>
     ChunkView::new(tokens, text, &[])
 }
 
-fn tree_of(alloc: Global, chunk: &ChunkView<'_>) -> Result<Ast, Fail>
+pub(crate) fn tree_of(alloc: Global, chunk: &ChunkView<'_>) -> Result<Ast, Fail>
     ensures { IfOk result (λ ast. IsSentence chunk.now (statement_of ast)) }
 {
     match chunk.parse(alloc) {
@@ -81,7 +81,7 @@ fn elaborated(alloc: Global, env: &Env, chunk: &ChunkView<'_>) -> Result<Meant, 
     }
 }
 
-fn is_rewrite(chunk: &ChunkView<'_>) -> bool
+pub(crate) fn is_rewrite(chunk: &ChunkView<'_>) -> bool
     ensures { IsTrue result ↔ IsRewrite chunk.now }
 {
     match chunk.keyword() {

@@ -1,5 +1,5 @@
 -- Two wires have no generator, so all their names are there.
-use Rattle.std.proofs.Common.{[], ◌∷◌, List, refl, sym, subst, arith}
+use Rattle.std.proofs.Common.{[], ◌∷◌, ◌≡◌, List, refl, sym, subst, arith}
 use Rattle.chyp_base.specs.Sort.{plain}
 use Rattle.chyp_term.specs.Morphism.{Morphism, IsTyped, permutation}
 use Rattle.chyp_env.specs.Environment.{Binding}
@@ -16,4 +16,4 @@ can-be-printed env t e typed =
     })
 
 pub print_term-requires : goal.print_term-requires
-print_term-requires c = can-be-printed c.args.env.now _ c.in_ok-term.ensures ?
+print_term-requires c = can-be-printed c.args.env.now _ c.in_ok-term.ensures (c.if-not-is_good.ensures.typed refl)
