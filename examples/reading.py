@@ -1,16 +1,20 @@
+#!/usr/bin/env python3
 """A second reading of docs/LANGUAGE.md: what `chyp check` is to write, found by other means.
 
 It shares nothing with the program. Terms are drawn as graphs and compared by search, and a rule is tried at
-every place where its left side occurs, with no thought of speed, and only for texts within the limit on
-their length.
+every place where its left side occurs, with no thought of speed.
+
+Usage: examples/reading.py check    (a text on standard input, its modules in the current folder)
 """
 import itertools
+import sys
 from collections import namedtuple
 
 STATEMENTS = {"gen", "let", "rule", "rewrite", "import", "show", "type"}
 RESERVED = STATEMENTS | {"id", "id0", "sw", "by", "as", "simp", "with"}
 SYMBOLS = ":=;*()[],-?"
 NAMES = ("identifier", "dotted")
+MOST_BYTES, MOST_MODULES = 1_048_576, 64
 MOST_PARENTHESES = 256
 MOST_PORTS = 64
 MOST_GENERATORS, MOST_SIZE, MOST_DEPTH, MOST_TOGETHER = 1024, 200_000, 256, 4_000_000
@@ -109,7 +113,7 @@ Row = namedtuple("Row", "kind parts semicolons")
 Signed = namedtuple("Signed", "minus token")
 Reason = namedtuple("Reason", "is_simp rules")
 Step = namedtuple("Step", "equals goal reason")
-Sentence = namedtuple("Sentence", "kind terms steps ports shown")
+Sentence = namedtuple("Sentence", "kind terms steps ports shown prefix")
 IDENTITY, EMPTY = Swap(None, [0]), Swap(None, [])
 BY_LAWS = Reason(False, [])
 
@@ -200,13 +204,13 @@ class Parser:
 
     def sentence(self):
         kind = self.chunk[self.expect("gen", "let", "rule", "rewrite", "import", "show")].kind
-        terms, steps, ports, shown = [], [], [], None
+        terms, steps, ports, shown, prefix = [], [], [], None, None
         if kind == "show":
             shown = self.expect(*NAMES)
         else:
             self.expect("identifier")
         if kind == "import" and self.accept("as"):
-            self.expect("identifier")
+            prefix = self.expect("identifier")
         if kind in ("gen", "rule", "rewrite"):
             self.expect(":")
         if kind == "gen":
@@ -224,7 +228,7 @@ class Parser:
         if self.at < len(self.chunk):
             raise NoSentence(self.at)
         terms += [step.goal for step in steps if step.goal is not None]
-        return Sentence(kind, terms, steps, ports, shown)
+        return Sentence(kind, terms, steps, ports, shown, prefix)
 
 
 # ## Terms
@@ -233,7 +237,7 @@ Generator = namedtuple("Generator", "name inputs outputs")
 Wires = namedtuple("Wires", "places")
 Joined = namedtuple("Joined", "kind first rest")
 Measures = namedtuple("Measures", "size depth generators")
-Entry = namedtuple("Entry", "kind term type measures", defaults=(None, None, None))
+Entry = namedtuple("Entry", "kind term type measures origin", defaults=(None, None, None, None))
 
 
 class Mistyped(Exception):
@@ -241,10 +245,10 @@ class Mistyped(Exception):
 
 
 class Reader:
-    """Reads the terms of a chunk, where names stand for what they do in an environment."""
+    """Reads the terms of a chunk of a module, where names stand for what they do in an environment."""
 
-    def __init__(self, chunk, names):
-        self.chunk, self.names = chunk, names
+    def __init__(self, chunk, names, home):
+        self.chunk, self.names, self.home = chunk, names, home
 
     def entry(self, token):
         return self.names.get(self.chunk[token].value)
@@ -633,7 +637,7 @@ def check_steps(sentence, reader):
 def entry_of(sentence, reader):
     """What the name of a statement that nothing refuses stands for."""
     if sentence.kind == "gen":
-        term = Generator(reader.chunk[1].value, *sentence.ports)
+        term = Generator((reader.home, reader.chunk[1].value), *sentence.ports)
         return Entry("generator", term, tuple(sentence.ports), Measures(1 + sum(sentence.ports), 1, 1))
     if sentence.kind == "let":
         (tree,) = sentence.terms
@@ -643,23 +647,115 @@ def entry_of(sentence, reader):
     return Entry("shown")
 
 
-def judged(chunk, names):
-    """The entry of a statement that is good; otherwise it is refused."""
+def judged(chunk, names, home, library):
+    """What a good statement of a module binds, by the names that it binds; a statement that is not good is refused."""
     try:
         sentence = Parser(chunk).sentence()
     except NoSentence as found:
         raise Refused("syntax", *found.args) from None
     if sentence.kind == "import":
-        raise Refused("not-built", None)
+        return taken_in(chunk, sentence, names, library)
     if sentence.kind != "show" and chunk[1].value in names:
         raise Refused("declared", 1)
-    reader = Reader(chunk, names)
+    reader = Reader(chunk, names, home)
     check_names(sentence, reader)
     check_limits(sentence, reader)
     check_types(sentence, reader)
     if sentence.kind == "rewrite":
         check_steps(sentence, reader)
-    return entry_of(sentence, reader)
+    return {} if sentence.kind == "show" else {chunk[1].value: entry_of(sentence, reader)}
+
+
+# ## Modules
+
+
+class TooLong(Exception):
+    """A text is too long, or there are too many modules."""
+
+
+def wanted_by(chunks):
+    """The modules that the import statements among the chunks name, in order."""
+    names = []
+    for chunk in chunks:
+        if chunk[0].kind == "import":
+            try:
+                Parser(chunk).sentence()
+                names.append(chunk[1].value)
+            except NoSentence:
+                pass
+    return names
+
+
+class Library:
+    """The chunks of a text, whose name is empty, and of each module that it reaches; None for one that is absent."""
+
+    def __init__(self, text, text_of):
+        self.chunks, self.imports, self.passed_on = {}, {}, {}
+        waiting = [""]
+        while waiting:
+            name = waiting.pop(0)
+            if name in self.chunks:
+                continue
+            given = text_of(name) if name else text
+            self.chunks[name] = None if given is None else chunks_within_limit(given)
+            self.imports[name] = wanted_by(self.chunks[name] or [])
+            waiting += self.imports[name]
+            if sum(chunks is not None for each, chunks in self.chunks.items() if each) > MOST_MODULES:
+                raise TooLong
+
+    def reached_from(self, name):
+        """The modules that one reaches by one import or more."""
+        found, waiting = set(), [*self.imports[name]]
+        while waiting:
+            if (other := waiting.pop()) not in found:
+                found.add(other)
+                waiting += self.imports[other]
+        return found
+
+    def names_of(self, name):
+        """What the names of a module that doesn't reach itself stand for, in the order in which they are bound."""
+        if name not in self.passed_on:
+            self.passed_on[name] = {}
+            for number, chunk in enumerate(self.chunks[name]):
+                verdict_on(chunk, number, self.passed_on[name], name, self)
+        return self.passed_on[name]
+
+
+def chunks_within_limit(text):
+    if len(text) > MOST_BYTES:
+        raise TooLong
+    return chunks_of(tokens_of(text))
+
+
+def taken_in(chunk, sentence, names, library):
+    """What an import binds."""
+    module = chunk[1].value
+    if library.chunks[module] is None:
+        raise Refused("no-module", 1)
+    if module in library.reached_from(module):
+        raise Refused("cycle", 1)
+    before = "" if sentence.prefix is None else chunk[sentence.prefix].value + "."
+    taken = {before + name: entry for name, entry in library.names_of(module).items()}
+    for name, entry in taken.items():
+        if name in names and names[name].origin != entry.origin:
+            raise Refused(f"clash {name}", None)
+    return taken
+
+
+def verdict_on(chunk, number, names, home, library):
+    """The words of a statement's verdict, the token that it names, if any, and whether it is good. Its names are bound."""
+    kind = chunk[0].kind
+    verdict, token, is_good = "proved" if kind == "rewrite" else "ok", None, True
+    try:
+        bound = judged(chunk, names, home, library)
+    except Refused as found:
+        verdict, token = found.args
+        is_good = False
+        declares = kind in ("gen", "let", "rule", "rewrite") and len(chunk) > 1 and chunk[1].kind == "identifier"
+        bound = {chunk[1].value: Entry("unproved" if kind == "rewrite" else "broken")} if declares else {}
+    for name, entry in bound.items():
+        names.setdefault(name, entry if entry.origin else entry._replace(origin=(home, number)))
+    return verdict, token, is_good
 
 
 # ## Reports
@@ -676,28 +772,42 @@ def place_in(text, chunk, token):
     return place_of(text, chunk[token].start if token < len(chunk) else chunk[-1].end)
 
 
-def line_of(text, chunk, names):
-    """The report's line on a statement, and whether it is good; its name is bound."""
+def line_of(text, chunk, verdict, token):
+    """The report's line on a statement."""
     is_stray = chunk[0].kind not in STATEMENTS
-    shown = chunk[1].value if not is_stray and len(chunk) > 1 and chunk[1].kind in NAMES else "-"
-    entry = Entry("unproved" if chunk[0].kind == "rewrite" else "broken")
-    is_good = False
-    try:
-        entry, is_good = judged(chunk, names), True
-        verdict = "proved" if chunk[0].kind == "rewrite" else "ok"
-    except Refused as found:
-        verdict, token = found.args
-        verdict += "" if token is None else f" at {place_in(text, chunk, token)}"
-    if chunk[0].kind in ("gen", "let", "rule", "rewrite") and len(chunk) > 1 and chunk[1].kind == "identifier":
-        names.setdefault(chunk[1].value, entry)
     kind = "stray" if is_stray else chunk[0].kind
-    return f"{place_of(text, chunk[0].start)} {kind} {shown} {verdict}\n", is_good
+    shown = chunk[1].value if not is_stray and len(chunk) > 1 and chunk[1].kind in NAMES else "-"
+    at = "" if token is None else f" at {place_in(text, chunk, token)}"
+    return f"{place_of(text, chunk[0].start)} {kind} {shown} {verdict}{at}\n"
 
 
-def report(text):
-    """What `chyp check` writes on a text, and its status."""
-    names = {}
-    lines = [line_of(text, chunk, names) for chunk in chunks_of(tokens_of(text))]
-    good = sum(is_good for _, is_good in lines)
+def report(text, text_of=lambda name: None):
+    """What `chyp check` writes on a text, and its status. Modules have the texts that a function of their names gives, or None."""
+    try:
+        library = Library(text, text_of)
+    except TooLong:
+        return b"", 6
+    names, lines, good = {}, [], 0
+    for number, chunk in enumerate(library.chunks[""]):
+        verdict, token, is_good = verdict_on(chunk, number, names, "", library)
+        lines.append(line_of(text, chunk, verdict, token))
+        good += is_good
     total = f"total {len(lines)} good {good}\n"
-    return ("".join(line for line, _ in lines) + total).encode(), 0 if good == len(lines) else 1
+    return "".join([*lines, total]).encode(), 0 if good == len(lines) else 1
+
+
+def text_in_folder(name):
+    """The text of a module in the current folder."""
+    try:
+        with open(f"{name}.chyp".encode(), "rb") as file:
+            return file.read()
+    except FileNotFoundError:
+        return None
+
+
+if __name__ == "__main__":
+    if sys.argv[1:] != ["check"]:
+        sys.exit(2)
+    written, status = report(sys.stdin.buffer.read(), text_in_folder)
+    sys.stdout.buffer.write(written)
+    sys.exit(status)

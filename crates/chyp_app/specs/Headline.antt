@@ -1,7 +1,7 @@
 -- What is promised of a whole run.
 use Rattle.std.specs.Prelude.{take, ◌≤◌, ◌≡◌, ◌⊎◌, ℕ, ◌+◌, ◌<◌, List, ◌++◌, Option, Some}
 use Rattle.chyp_base.specs.declared.status.Status.{Status}
-use Rattle.chyp_base.specs.declared.status.Status.TheVariants.{ReadFault, WriteFault, LibraryFault, BadCommand, NoMemory}
+use Rattle.chyp_base.specs.declared.status.Status.TheVariants.{Done, SomeNotGood, ReadFault, WriteFault, LibraryFault, BadCommand, NoMemory}
 use Rattle.chyp_app.specs.Output.{Output}
 
 -- there is an output that is to be given, and this holds of it
@@ -49,10 +49,20 @@ EndsSo IsGiven steps steps_now status = GivesOrWants status IsGiven (IsReached s
 abbrev pub BeginsToCheck : (Output → Type 0) → ℕ → ℕ → Type 0
 BeginsToCheck IsGiven steps steps_now = Gives IsGiven (IsCountedTo steps steps_now)
 
--- at most one of the two counts of faults rose, and the status says which; want of memory is no fault
-abbrev pub ComesBy : ℕ → ℕ → ℕ → ℕ → Status → Type 0
-ComesBy reads reads_now writes writes_now ReadFault = (reads < reads_now) × (writes_now ≡ writes)
-ComesBy reads reads_now writes writes_now WriteFault = (reads_now ≡ reads) × (writes < writes_now)
-ComesBy reads reads_now writes writes_now LibraryFault = ⊥
-ComesBy reads reads_now writes writes_now BadCommand = ⊥
-ComesBy reads reads_now writes writes_now _ = (reads_now ≡ reads) × (writes_now ≡ writes)
+-- the run came to its end: all statements are good, or some are not
+abbrev pub IsEnded : Status → Type 0
+IsEnded status = (status ≡ Done) ⊎ (status ≡ SomeNotGood)
+
+-- how often the source, the sink and the library have failed
+pub record Counts : Type 0 where
+  pub reads : ℕ
+  pub writes : ℕ
+  pub finds : ℕ
+
+-- at most one of the three counts of faults rose, and the status says which; want of memory is no fault
+abbrev pub ComesBy : Counts → Counts → Status → Type 0
+ComesBy before now ReadFault = (before.reads < now.reads) × (now.writes ≡ before.writes) × (now.finds ≡ before.finds)
+ComesBy before now WriteFault = (now.reads ≡ before.reads) × (before.writes < now.writes) × (now.finds ≡ before.finds)
+ComesBy before now LibraryFault = (now.reads ≡ before.reads) × (now.writes ≡ before.writes) × (before.finds < now.finds)
+ComesBy before now BadCommand = ⊥
+ComesBy before now _ = (now.reads ≡ before.reads) × (now.writes ≡ before.writes) × (now.finds ≡ before.finds)

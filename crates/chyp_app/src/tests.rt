@@ -3,7 +3,7 @@ ghost use Rattle.std.specs.Prelude.{◌≡◌, ◌<◌, IfOk};
 
 use crate::complaint;
 use crate::run::run;
-use chyp_base::{MemLibrary, MemSink, MemSource, Status, Steps};
+use chyp_base::{MemLibrary, MemSink, MemSource, Name, Status, Steps, Text};
 use std::alloc::Global;
 use std::marker::Brand;
 use std::sync::ledger::{Blank, Ledger};
@@ -187,7 +187,7 @@ const CASES: [Case; 35] = [
     Case {
         text: b"\n\n  import m as n",
         status: Status::SomeNotGood,
-        written: "3:3 import m not-built\ntotal 1 good 0\n",
+        written: "3:3 import m no-module at 3:10\ntotal 1 good 0\n",
     },
     // Bytes in a comment are skipped, whatever they are.
     Case {
@@ -223,27 +223,43 @@ const CASES: [Case; 35] = [
 fn run_counted<G: Ledger>(
     alloc: Global,
     words: &[&str],
-    source: MemSource,
+    outside: (MemSource, MemLibrary),
     sink: &mut MemSink,
     blank: Blank,
 ) -> Status
     requires name { blank.name ≡ G.name }
     requires parts { blank.parts ≡ G.parts }
     requires some { 0 < G.parts }
-    requires source { source.faults ≡ 0 }
+    requires source { outside.0.faults ≡ 0 }
+    requires library { outside.1.faults ≡ 0 }
     requires sink { sink.old.faults ≡ 0 }
 {
-    let mut source = source;
-    let mut library = MemLibrary::new(Vec::new(alloc), Vec::new(alloc));
+    let (mut source, mut library) = outside;
     let mut steps = Steps::<G>::new(blank);
     run(alloc, words, &mut source, sink, &mut library, &mut steps)
 }
 
-fn run_uncounted(alloc: Global, words: &[&str], source: MemSource, sink: &mut MemSink) -> Status
+fn run_over(
+    alloc: Global,
+    words: &[&str],
+    source: MemSource,
+    library: MemLibrary,
+    sink: &mut MemSink,
+) -> Status
+    requires source { source.faults ≡ 0 }
+    requires library { library.faults ≡ 0 }
+    requires sink { sink.old.faults ≡ 0 }
+{
+    run_counted::<Brand>(alloc, words, (source, library), sink, Blank::new(1))
+}
+
+// A run without modules.
+fn run_alone(alloc: Global, words: &[&str], source: MemSource, sink: &mut MemSink) -> Status
     requires source { source.faults ≡ 0 }
     requires sink { sink.old.faults ≡ 0 }
 {
-    run_counted::<Brand>(alloc, words, source, sink, Blank::new(1))
+    let library = MemLibrary::new(Vec::new(alloc), Vec::new(alloc));
+    run_over(alloc, words, source, library, sink)
 }
 
 // A run of `check` with no fault.
@@ -252,7 +268,7 @@ fn check(alloc: Global, text: &[u8], piece: usize, sink: &mut MemSink) -> Result
     requires sink { sink.old.faults ≡ 0 }
 {
     let source = MemSource::new(text.to_vec(alloc)?, piece, Vec::new(alloc));
-    Ok(run_uncounted(alloc, &["check"], source, sink))
+    Ok(run_alone(alloc, &["check"], source, sink))
 }
 
 // Fails unless the text has its report, whatever the pieces that it comes in.
@@ -280,7 +296,7 @@ fn refused(rt: &HostRuntime, words: &[&str]) -> Result<Status, Fail> {
     let alloc = rt.alloc();
     let source = MemSource::new(b"x".to_vec(alloc)?, 1, Vec::new(alloc));
     let mut sink = MemSink::new(alloc, 100, 100, Vec::new(alloc))?;
-    let status = run_uncounted(alloc, words, source, &mut sink);
+    let status = run_alone(alloc, words, source, &mut sink);
     if !sink.written().is_empty() {
         return Err(Fail::new("something was written"));
     }
@@ -297,6 +313,143 @@ fn words_that_are_not_accepted_are_refused(rt: HostRuntime) -> Result<(), Fail> 
     Ok(())
 }
 
+const MODULES: [(&str, &str); 6] = [
+    ("monoid", "gen m : 2 -> 1\n"),
+    ("a", "import monoid\n"),
+    ("b", "import monoid\n"),
+    ("c", "import d\n"),
+    ("d", "import c\n"),
+    ("e", "gen m : 2 -> 1\n"),
+];
+
+const IMPORTS: [Case; 6] = [
+    // A name that comes by two ways is one.
+    Case {
+        text: b"import a\nimport b\nrewrite x : m = m\n",
+        status: Status::Done,
+        written: "1:1 import a ok\n2:1 import b ok\n3:1 rewrite x proved\ntotal 3 good 3\n",
+    },
+    // Generators of two modules are two, behind their prefixes.
+    Case {
+        text: b"import monoid as p\nimport e as q\nrewrite x : p.m = q.m\n",
+        status: Status::SomeNotGood,
+        written: "1:1 import monoid ok\n2:1 import e ok\n3:1 rewrite x step 1 differs\ntotal 3 good 2\n",
+    },
+    Case {
+        text: b"import monoid\nimport e\n",
+        status: Status::SomeNotGood,
+        written: "1:1 import monoid ok\n2:1 import e clash m\ntotal 2 good 1\n",
+    },
+    Case {
+        text: b"import c\n",
+        status: Status::SomeNotGood,
+        written: "1:1 import c cycle at 1:8\ntotal 1 good 0\n",
+    },
+    Case {
+        text: b"import zz\n",
+        status: Status::SomeNotGood,
+        written: "1:1 import zz no-module at 1:8\ntotal 1 good 0\n",
+    },
+    Case {
+        text: b"import a import a import a",
+        status: Status::Done,
+        written: "1:1 import a ok\n1:10 import a ok\n1:19 import a ok\ntotal 3 good 3\n",
+    },
+];
+
+fn module(alloc: Global, name: &str, text: &str) -> Result<(Name, Text), Fail> {
+    let text = Text::from_vec(Vec::from_slice(alloc, text.as_bytes())?);
+    Ok((Name::new(alloc, name)?, text))
+}
+
+// A library of modules, which fails at these calls.
+fn library_of(alloc: Global, failing: &[u64]) -> Result<MemLibrary, Fail>
+    ensures { IfOk result (λ library. library.faults ≡ 0) }
+{
+    let mut modules = Vec::new(alloc);
+    for (name, text) in &MODULES {
+        modules.push(module(alloc, name, text)?)?;
+    }
+    Ok(MemLibrary::new(modules, failing.to_vec(alloc)?))
+}
+
+// A run of `check` over a library.
+fn check_over(
+    alloc: Global,
+    text: &[u8],
+    library: MemLibrary,
+    sink: &mut MemSink,
+) -> Result<Status, Fail>
+    requires library { library.faults ≡ 0 }
+    requires sink { sink.old.faults ≡ 0 }
+{
+    let source = MemSource::new(text.to_vec(alloc)?, 4096, Vec::new(alloc));
+    Ok(run_over(alloc, &["check"], source, library, sink))
+}
+
+#[test]
+fn modules_are_read(rt: HostRuntime) -> Result<(), Fail> {
+    let alloc = rt.alloc();
+    for case in &IMPORTS {
+        let mut sink = MemSink::new(alloc, 1000, 1000, Vec::new(alloc))?;
+        let status = check_over(alloc, case.text, library_of(alloc, &[])?, &mut sink)?;
+        assert_eq!(rt; status, case.status, "{}", case.written);
+        assert_eq!(rt; sink.written(), case.written.as_bytes());
+    }
+    Ok(())
+}
+
+#[test]
+fn a_library_fault_ends_the_run(rt: HostRuntime) -> Result<(), Fail> {
+    let alloc = rt.alloc();
+    for failing in 0..3 {
+        let mut sink = MemSink::new(alloc, 100, 100, Vec::new(alloc))?;
+        let library = library_of(alloc, &[failing])?;
+        let status = check_over(alloc, b"import a import b", library, &mut sink)?;
+        assert_eq!(rt; status, Status::LibraryFault, "{failing}");
+        assert_eq!(rt; sink.written().len(), 0);
+    }
+    Ok(())
+}
+
+// A library of this many modules with one text, and a text that imports each.
+fn many_modules(alloc: Global, count: usize, text: &str) -> Result<(MemLibrary, String), Fail>
+    ensures { IfOk result (λ made. made.0.faults ≡ 0) }
+{
+    let mut modules = Vec::new(alloc);
+    let mut imports = String::new(alloc);
+    for number in 0..count {
+        let name = format!(in alloc; "m{number}")?;
+        modules.push(module(alloc, name.as_str(), text)?)?;
+        imports.push_str("import ")?;
+        imports.push_str(name.as_str())?;
+        imports.push_str("\n")?;
+    }
+    Ok((MemLibrary::new(modules, Vec::new(alloc)), imports))
+}
+
+#[test]
+fn modules_past_the_limits_are_refused(rt: HostRuntime) -> Result<(), Fail> {
+    let alloc = rt.alloc();
+    for (count, len, status, total) in [
+        (64, 0, Status::Done, "total 64 good 64\n"),
+        (65, 0, Status::TooLong, ""),
+        (1, 1_048_576, Status::Done, "total 1 good 1\n"),
+        (1, 1_048_577, Status::TooLong, ""),
+    ] {
+        let text = " ".repeat(alloc, len)?;
+        let (library, imports) = many_modules(alloc, count, text.as_str())?;
+        let mut sink = MemSink::new(alloc, 10_000, 10_000, Vec::new(alloc))?;
+        assert_eq!(rt;
+            check_over(alloc, imports.as_bytes(), library, &mut sink)?,
+            status
+        );
+        assert!(rt; sink.written().ends_with(total.as_bytes()), "{total}");
+        assert_eq!(rt; sink.written().is_empty(), total.is_empty());
+    }
+    Ok(())
+}
+
 const TEXT: &[u8] = b"rewrite n : sw ; sw = id * id";
 
 const REPORT: &[u8] = b"1:1 rewrite n proved\ntotal 1 good 1\n";
@@ -308,7 +461,7 @@ fn a_read_fault_ends_the_run(rt: HostRuntime) -> Result<(), Fail> {
     for failing in 0..9 {
         let source = MemSource::new(TEXT.to_vec(alloc)?, 4, [failing].to_vec(alloc)?);
         let mut sink = MemSink::new(alloc, 100, 100, Vec::new(alloc))?;
-        let status = run_uncounted(alloc, &["check"], source, &mut sink);
+        let status = run_alone(alloc, &["check"], source, &mut sink);
         assert_eq!(rt; status, Status::ReadFault, "{failing}");
         assert_eq!(rt; sink.written().len(), 0);
     }
@@ -321,7 +474,7 @@ fn a_write_fault_ends_the_run(rt: HostRuntime) -> Result<(), Fail> {
     for (failing, count) in [(0, 0), (1, 10), (3, 30)] {
         let source = MemSource::new(TEXT.to_vec(alloc)?, 4, Vec::new(alloc));
         let mut sink = MemSink::new(alloc, 100, 10, [failing].to_vec(alloc)?)?;
-        let status = run_uncounted(alloc, &["check"], source, &mut sink);
+        let status = run_alone(alloc, &["check"], source, &mut sink);
         assert_eq!(rt; status, Status::WriteFault, "{failing}");
         assert_eq!(rt; sink.written(), &REPORT[..count], "{failing}");
     }

@@ -1,3 +1,10 @@
 pub mod StepLists
 pub mod Outcomes
 pub mod Texts
+pub mod Nodes
+pub mod Reached
+pub mod Fronts
+pub mod Wanted
+pub mod Ranks
+pub mod Counting
+pub mod Going

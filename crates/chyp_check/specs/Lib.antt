@@ -1,2 +1,4 @@
 pub mod Inputs
-pub mod Modules
+pub mod Progress
+pub mod Project
+pub mod Order

@@ -1,43 +1,150 @@
-// Each public call once.
-ghost use Rattle.std.specs.Prelude.{◌≡◌, ◌≤◌, ◌<◌, length};
+// What statements get over modules.
+ghost use Rattle.std.specs.Prelude.{◌≡◌, ◌≤◌, ◌<◌, IfOk, length};
 ghost use Rattle.chyp_lex.specs.Names.{NamesAreText};
 ghost use Rattle.chyp_lex.specs.Tokens.{AreSpans};
 
-use crate::each::judge_and_bind;
 use crate::*;
-use chyp_base::{Name, Steps, Verdict};
+use chyp_base::{MemLibrary, Name, Steps, Text, Verdict};
 use chyp_lex::{Token, each_name_is_text, lex};
+use chyp_load::load;
 use chyp_names::{ChunkView, Env, ImportState};
-use chyp_syntax::chunks;
 use std::alloc::Global;
 use std::marker::Brand;
 use std::sync::ledger::{Blank, Ledger};
 use std::test::Fail;
 
-fn checked<G: Ledger>(alloc: Global, text: &[u8], blank: Blank) -> Result<Verdicts, Fail>
+struct Case {
+    text: &'static [u8],
+    /// The modules that are there.
+    modules: &'static [(&'static str, &'static [u8])],
+    /// The letters of the verdicts.
+    verdicts: &'static str,
+}
+
+const CASES: [Case; 9] = [
+    // No module at all.
+    Case {
+        text: b"gen f : 1 -> 1 gen g : 1 -> 1 rewrite x : f * g = g * f",
+        modules: &[],
+        verdicts: "aad",
+    },
+    // A diamond: what both sides pass on is one.
+    Case {
+        text: b"import l import r rewrite x : f = f",
+        modules: &[
+            ("l", b"import a"),
+            ("r", b"import a"),
+            ("a", b"gen f : 1 -> 1"),
+        ],
+        verdicts: "aap",
+    },
+    // A chain, whose last module is absent.
+    Case {
+        text: b"import a let k = f",
+        modules: &[("a", b"import b gen f : 1 -> 1"), ("b", b"import c")],
+        verdicts: "aa",
+    },
+    Case {
+        text: b"import c",
+        modules: &[],
+        verdicts: "n",
+    },
+    // Circles of one, of two and of three modules.
+    Case {
+        text: b"import a import b import d",
+        modules: &[
+            ("a", b"import a"),
+            ("b", b"import c"),
+            ("c", b"import b"),
+            ("d", b"import e"),
+            ("e", b"import f"),
+            ("f", b"import d"),
+        ],
+        verdicts: "ccc",
+    },
+    // A module that only reaches a circle.
+    Case {
+        text: b"import r let k = f",
+        modules: &[("r", b"gen f : 1 -> 1 import a"), ("a", b"import a")],
+        verdicts: "aa",
+    },
+    // One module under two prefixes.
+    Case {
+        text: b"import a as p import a as q rewrite x : p.f = q.f",
+        modules: &[("a", b"gen f : 1 -> 1")],
+        verdicts: "aap",
+    },
+    // Names of two modules that are one behind no prefix.
+    Case {
+        text: b"import a as p import b rewrite x : p.f = f",
+        modules: &[("a", b"gen f : 1 -> 1"), ("b", b"gen f : 1 -> 1")],
+        verdicts: "aad",
+    },
+    // Names of two modules that are one.
+    Case {
+        text: b"import a import b",
+        modules: &[("a", b"gen f : 1 -> 1"), ("b", b"gen f : 1 -> 1")],
+        verdicts: "ax",
+    },
+];
+
+// A letter for each verdict of the table.
+fn letter(verdict: &Verdict) -> char {
+    match verdict {
+        Verdict::Accepted => 'a',
+        Verdict::Proved => 'p',
+        Verdict::Differs { .. } => 'd',
+        Verdict::NoModule { .. } => 'n',
+        Verdict::Cycle { .. } => 'c',
+        Verdict::Clash { .. } => 'x',
+        _ => '?',
+    }
+}
+
+fn letters(alloc: Global, verdicts: &[Verdict]) -> Result<String, Fail> {
+    let mut letters = String::new(alloc);
+    for verdict in verdicts {
+        letters.push(letter(verdict))?;
+    }
+    Ok(letters)
+}
+
+fn library(alloc: Global, modules: &[(&str, &[u8])]) -> Result<MemLibrary, Fail>
+    ensures { IfOk result (λ library. library.faults ≡ 0) }
+{
+    let mut list = Vec::new(alloc);
+    for (name, text) in modules {
+        let bytes = Vec::from_slice(alloc, text)?;
+        list.push((Name::new(alloc, name)?, Text::from_vec(bytes)))?;
+    }
+    Ok(MemLibrary::new(list, Vec::new(alloc)))
+}
+
+fn checked<G: Ledger>(
+    alloc: Global,
+    text: &[u8],
+    modules: &[(&str, &[u8])],
+    blank: Blank,
+) -> Result<Verdicts, Fail>
     requires short { length text.now ≤ 1000 }
     requires name { blank.name ≡ G.name }
     requires parts { blank.parts ≡ G.parts }
     requires some { 0 < G.parts }
 {
-    each_name_is_text();
     let mut steps = Steps::<G>::new(blank);
-    let tokens = lex(alloc, text, b"")?;
-    let chunks = chunks(alloc, &tokens)?;
-    Ok(check_each(alloc, text, &tokens, &chunks, &mut steps)?)
+    let mut library = library(alloc, modules)?;
+    let modules = Modules::new(load(alloc, &mut library, text)?);
+    Ok(check_all(alloc, text, &modules, &mut steps)?)
 }
 
 #[test]
-fn the_statements_of_a_text_have_verdicts(rt: HostRuntime) -> Result<(), Fail> {
-    let text = b"gen f : 1 -> 1 gen g : 1 -> 1 rewrite x : f * g = g * f";
-    let verdicts = checked::<Brand>(rt.alloc(), text, Blank::new(1))?;
-    let given = [
-        Verdict::Accepted,
-        Verdict::Accepted,
-        Verdict::Differs { step: 1 },
-    ];
-    assert_eq!(rt; verdicts.as_slice(), given.as_slice());
-    assert_eq!(rt; verdicts.into_vec().len(), 3);
+fn the_statements_of_a_text_have_verdicts_over_its_modules(rt: HostRuntime) -> Result<(), Fail> {
+    for case in &CASES {
+        let alloc = rt.alloc();
+        let verdicts = checked::<Brand>(alloc, case.text, case.modules, Blank::new(1))?;
+        let letters = letters(alloc, verdicts.as_slice())?;
+        assert_eq!(rt; letters.as_str(), case.verdicts);
+    }
     Ok(())
 }
 
@@ -50,24 +157,7 @@ fn lent<'a>(text: &'a [u8], tokens: &'a [Token]) -> ChunkView<'a>
     ChunkView::new(tokens, text, &[])
 }
 
-/// Binds the name of the statement that this text is.
-fn bind_text(alloc: Global, env: &mut Env, text: &[u8]) -> Result<(), Fail>
-    requires { length text.now ≤ 1000 }
-{
-    each_name_is_text();
-    let tokens = lex(alloc, text, b"")?;
-    let module = Name::new(alloc, "")?;
-    let chunk = lent(text, &tokens);
-    let _ = judge_and_bind(alloc, &module, &chunk, 0, env)?;
-    Ok(())
-}
-
-fn verdict_of<G: Ledger>(
-    alloc: Global,
-    env: &Env,
-    text: &[u8],
-    blank: Blank,
-) -> Result<Verdict, Fail>
+fn verdict_of<G: Ledger>(alloc: Global, text: &[u8], blank: Blank) -> Result<Verdict, Fail>
     requires short { length text.now ≤ 1000 }
     requires name { blank.name ≡ G.name }
     requires parts { blank.parts ≡ G.parts }
@@ -81,7 +171,7 @@ fn verdict_of<G: Ledger>(
     let inputs = Inputs {
         module: &module,
         chunk: &chunk,
-        env,
+        env: &Env::new(alloc),
         import: &ImportState::NotImport,
     };
     Ok(check_one(alloc, &inputs, &mut steps)?)
@@ -89,12 +179,7 @@ fn verdict_of<G: Ledger>(
 
 #[test]
 fn one_statement_has_its_verdict(rt: HostRuntime) -> Result<(), Fail> {
-    let alloc = rt.alloc();
-    let mut env = Env::new(alloc);
-    bind_text(alloc, &mut env, b"gen f : 1 -> 1")?;
-    bind_text(alloc, &mut env, b"gen g : 1 -> 1")?;
-    let text = b"rewrite x : f * g = g * f";
-    let verdict = verdict_of::<Brand>(alloc, &env, text, Blank::new(1))?;
+    let verdict = verdict_of::<Brand>(rt.alloc(), b"rewrite x : sw = id * id", Blank::new(1))?;
     assert_eq!(rt; verdict, Verdict::Differs { step: 1 });
     Ok(())
 }

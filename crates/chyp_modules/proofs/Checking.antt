@@ -30,7 +30,7 @@ contains-or-not (n ∷ ns) name = go (bytes_eq n name) refl (contains-or-not ns 
     go false e (inl c) = inl (Contains-cons n ns name c)
     go false e (inr c) = inr (λ d. elim (Contains-from_cons n ns name d) [ inl s ↦ false≢true (sym e ∙ names-same n name s) | inr h ↦ c h ])
 
-distinct-without : (name : List ℕ) (names : Names) → AreDistinct names → AreDistinct (without name names)
+pub distinct-without : (name : List ℕ) (names : Names) → AreDistinct names → AreDistinct (without name names)
 distinct-without name [] d = tt
 distinct-without name (n ∷ ns) d = go (bytes_eq name n) (distinct-without name ns d.1)
   where
@@ -38,7 +38,7 @@ distinct-without name (n ∷ ns) d = go (bytes_eq name n) (distinct-without name
     go true rest = rest
     go false rest = ((λ c. d.0 (Contains-from_filter (λ other. not (bytes_eq name other)) ns n c).0), rest)
 
-without-not : (name : List ℕ) (names : Names) → ¬ Contains (without name names) name
+pub without-not : (name : List ℕ) (names : Names) → ¬ Contains (without name names) name
 without-not name names c = go (bytes_eq name name) (names-same name name refl) (Contains-from_filter (λ other. not (bytes_eq name other)) names name c).1
   where
     go : (b : Bool) → b ≡ true → not b ≡ true → ⊥
@@ -56,13 +56,13 @@ no-more (x ∷ xs) ys d among =
 
 -- ---- how many statements
 
-record Picked (library : Library) (name : List ℕ) (names : Names) (n : ℕ) : Type 0 where
-  text : List ℕ
-  statements : List (List Word)
-  is_module : IsModule library name text statements
-  m : ℕ
-  rest : HaveStatements library (without name names) m
-  sum : n ≡ length statements + m
+pub record Picked (library : Library) (name : List ℕ) (names : Names) (n : ℕ) : Type 0 where
+  pub text : List ℕ
+  pub statements : List (List Word)
+  pub is_module : IsModule library name text statements
+  pub m : ℕ
+  pub rest : HaveStatements library (without name names) m
+  pub sum : n ≡ length statements + m
 
 without-none : (name : List ℕ) (names : Names) → ¬ Contains names name → without name names ≡ names
 without-none name [] no' = refl
@@ -72,7 +72,7 @@ without-none name (n ∷ ns) no' = go (bytes_eq name n) refl (without-none name 
     go true e rest = absurd (no' (0, omega arith, sym (names-eq name n e)))
     go false e rest = ap (λ xs. n ∷ xs) rest
 
-pick : (library : Library) (name : List ℕ) (names : Names) (n : ℕ) → AreDistinct names → Contains names name → HaveStatements library names n → Picked library name names n
+pub pick : (library : Library) (name : List ℕ) (names : Names) (n : ℕ) → AreDistinct names → Contains names name → HaveStatements library names n → Picked library name names n
 pick library name [] n d c h = absurd (omega (arith, c.1))
 pick library name (x ∷ xs) n d c (of_more {text} {statements} {n = k} m h) = go (bytes_eq name x) refl (Contains-from_cons x xs name c) (λ e. pick library name xs k d.1 e h)
   where
