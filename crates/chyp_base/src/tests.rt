@@ -50,13 +50,10 @@ fn verdicts_are_good_or_not(rt: HostRuntime) -> Result<(), Fail> {
     assert!(rt; clash.clone()? == clash);
     assert!(rt; Verdict::Accepted.is_good());
     assert!(rt; Verdict::Proved.is_good());
-    for verdict in [
-        clash,
-        Verdict::Unfinished,
-        Verdict::NotBuilt,
-        Verdict::TooBig,
-    ] {
+    assert_eq!(rt; Verdict::Unknown { token: 4 }.token(), Some(4));
+    for verdict in [clash, Verdict::Unfinished, Verdict::TooBig] {
         assert!(rt; !verdict.is_good());
+        assert!(rt; verdict.token().is_none());
     }
     assert_eq!(rt; Status::Done.number(), 0);
     assert_eq!(rt; Status::NoMemory.number(), 8);

@@ -1,6 +1,6 @@
 // What a statement gets.
 ghost use Rattle.std.specs.Prelude.{◌≡◌};
-ghost use Rattle.chyp_base.specs.Verdict.{is_good};
+ghost use Rattle.chyp_base.specs.Verdict.{is_good, token_of};
 
 use crate::Name;
 
@@ -16,9 +16,6 @@ pub enum Verdict {
     Proved,
     /// A rewrite has no step yet, or its last goal is still open, and each step before it holds.
     Unfinished,
-    /// Nothing refuses the statement, and it is of a kind that isn't judged yet: an import, or a rewrite
-    /// with a `by` behind a term.
-    NotBuilt,
     /// The statement is no sentence of the language. This is the first token that shows it, or the
     /// number of tokens where only the end does.
     Syntax { token: u32 },
@@ -61,5 +58,24 @@ impl Verdict {
         ensures { result ≡ is_good self.now }
     {
         matches!(self, Verdict::Accepted | Verdict::Proved)
+    }
+
+    /// The number of the token that the verdict names within its statement, from 0; None where it names
+    /// none.
+    pub fn token(&self) -> Option<u32>
+        ensures { result ≡ token_of self.now }
+    {
+        match self {
+            Verdict::Syntax { token }
+            | Verdict::Declared { token }
+            | Verdict::NoModule { token }
+            | Verdict::Cycle { token }
+            | Verdict::Unknown { token }
+            | Verdict::Broken { token }
+            | Verdict::Kind { token }
+            | Verdict::Mistyped { token }
+            | Verdict::Unproved { token } => Some(*token),
+            _ => None,
+        }
     }
 }

@@ -2,7 +2,7 @@
 use Rattle.std.specs.Prelude.{ℕ, List, [], ◌∷◌, ◌++◌, Option, None, Some, codes, decimal}
 use Rattle.std.specs.Option.{option_copied}
 use Rattle.chyp_base.specs.declared.verdict.Verdict.{Verdict}
-use Rattle.chyp_base.specs.declared.verdict.Verdict.TheVariants.{Accepted, Proved, Unfinished, NotBuilt, Syntax, Declared, NoModule, Cycle, Clash, Unknown, Broken, Kind, TooBig, Mistyped, Unproved, Differs, NoRewrite, TooWide, SimpDiffers, SimpLimit}
+use Rattle.chyp_base.specs.declared.verdict.Verdict.TheVariants.{Accepted, Proved, Unfinished, Syntax, Declared, NoModule, Cycle, Clash, Unknown, Broken, Kind, TooBig, Mistyped, Unproved, Differs, NoRewrite, TooWide, SimpDiffers, SimpLimit}
 use Rattle.chyp_session.specs.declared.line.Line.{Line}
 use Rattle.chyp_session.specs.declared.place.Place.{Place}
 
@@ -15,7 +15,6 @@ abbrev pub verdict_text : Verdict → Place → List ℕ
 verdict_text Accepted at = codes "ok"
 verdict_text Proved at = codes "proved"
 verdict_text Unfinished at = codes "open"
-verdict_text NotBuilt at = codes "not-built"
 verdict_text (Syntax token) at = codes "syntax at " ++ place_text at
 verdict_text (Declared token) at = codes "declared at " ++ place_text at
 verdict_text (NoModule token) at = codes "no-module at " ++ place_text at

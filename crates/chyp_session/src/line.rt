@@ -90,7 +90,6 @@ fn write_verdict<K: Sink>(verdict: &Verdict, at: Place, sink: &mut K) -> Result<
         Verdict::Accepted => write_all(sink, &["ok"]),
         Verdict::Proved => write_all(sink, &["proved"]),
         Verdict::Unfinished => write_all(sink, &["open"]),
-        Verdict::NotBuilt => write_all(sink, &["not-built"]),
         Verdict::Syntax { .. } => write_at("syntax at ", at, sink),
         Verdict::Declared { .. } => write_at("declared at ", at, sink),
         Verdict::NoModule { .. } => write_at("no-module at ", at, sink),

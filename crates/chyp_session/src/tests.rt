@@ -46,7 +46,6 @@ fn a_line_shows_its_verdict(rt: HostRuntime) -> Result<(), Fail> {
     let name = Name::new(alloc, "m")?;
     let cases = [
         (Verdict::Accepted, "2:3 rewrite a ok\n"),
-        (Verdict::NotBuilt, "2:3 rewrite a not-built\n"),
         (
             Verdict::Unknown { token: 4 },
             "2:3 rewrite a unknown at 2:7\n",
