@@ -1,5 +1,7 @@
 pub mod Turns
 pub mod Bindings
+pub mod BoundTerms
+pub mod Closed
 pub mod Envs
 pub mod Failing
 pub mod Halves

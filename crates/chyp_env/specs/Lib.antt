@@ -1,4 +1,5 @@
 pub mod ChunkView
+pub mod Closed
 pub mod Coded
 pub mod Entry
 pub mod Environment

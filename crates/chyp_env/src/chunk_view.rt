@@ -6,7 +6,7 @@ ghost use Rattle.chyp_syntax.specs.Heading.{declared_name};
 ghost use Rattle.chyp_syntax.specs.Sentence.{IsSentence};
 ghost use Rattle.chyp_syntax.specs.Statement.{statement_of};
 ghost use Rattle.chyp_syntax.specs.Words.{bytes_at, keyword_in, words_of};
-ghost use Rattle.chyp_env.specs.ChunkView.{AreSpelled, IsLent};
+ghost use Rattle.chyp_env.specs.ChunkView.{AreNamed, AreSpelled, IsLent};
 
 use chyp_lex::{Token, TokenKind};
 use chyp_syntax::{Ast, ParseError, declared_name, parse, text_at};
@@ -97,6 +97,13 @@ impl<'a> ChunkView<'a> {
     /// Every identifier is UTF-8.
     pub fn spelled(&self)
         ensures { AreSpelled self.now }
+    {
+        let _ = &self.tokens;
+    }
+
+    /// Every identifier is a name by itself, and no reserved word.
+    pub fn named(&self)
+        ensures { AreNamed self.now }
     {
         let _ = &self.tokens;
     }

@@ -1,8 +1,11 @@
 // What names stand for.
 ghost use Rattle.std.specs.Prelude.{◌≡◌, ◌<◌, [], ◌∷◌, ◌++◌, false, length, slice_get, option_copied, IfSome, IfNone, OnOk, OnErr, Some, None};
+ghost use Rattle.chyp_lex.specs.Names.{IsNameText};
+ghost use Rattle.chyp_env.specs.Closed.{FitsBehind, IsClosed};
 ghost use Rattle.chyp_env.specs.Entry.{entry_of, sense_of};
 ghost use Rattle.chyp_env.specs.Environment.{binding_of, is_bound};
-ghost use Rattle.chyp_env.specs.Import.{all_passed_on, new_in};
+ghost use Rattle.chyp_env.specs.Import.{AgreeOnOrigins, all_passed_on, first_clash, new_in};
+ghost use Rattle.chyp_env.specs.Site.{there};
 ghost use Rattle.chyp_env.specs.Sound.{IsSound, IsSoundSense};
 
 use crate::entries::Entries;
@@ -13,8 +16,9 @@ use std::alloc::Global;
 use std::marker::Model;
 
 /// What names stand for, in the order of binding, each name once. Contracts see it as the list of its
-/// bindings, of `specs/Environment.antt`, and it is always sound: terms are typed and within the limits
-/// on one term, laws are equations, and generators have few ports.
+/// bindings, of `specs/Environment.antt`, and it is always sound and closed: terms are typed and within
+/// the limits on one term, laws are equations, and generators have few ports; each generator of a term has
+/// an entry of its own, and each name is one that a text may use.
 #[derive(Drop)]
 pub struct Env {
     entries: Entries,
@@ -31,7 +35,11 @@ impl Model for Env {
 
     ghost coded = { coded_list binding_code };
 
+    ghost use Rattle.chyp_env.specs.Closed.{IsClosed};
+
     ghost view = { λ e. e.entries };
+
+    ghost invariant = { λ e. IsClosed e.entries };
 }
 
 impl Env {
@@ -76,6 +84,13 @@ impl Env {
         self.entries.sound();
     }
 
+    /// Every environment is closed.
+    pub fn closed(&self)
+        ensures { IsClosed self.now }
+    {
+        let _ = &self.entries;
+    }
+
     /// The plain wires that its terms share, or new ones where no name is bound.
     ///
     /// # Errors
@@ -103,7 +118,8 @@ impl Env {
         self.entries.allocator()
     }
 
-    /// Binds the name of an entry, which is not bound yet. It takes constant time on average.
+    /// Binds the name of an entry, which is not bound yet. Each generator of the terms that it stands for has
+    /// an entry, or the entry is its own. It takes constant time on average.
     ///
     /// # Errors
     ///
@@ -111,6 +127,7 @@ impl Env {
     pub fn insert(&mut self, entry: Entry) -> Result<(), NoMemory>
         requires fresh { is_bound self.old entry.name ≡ false }
         requires sound { IsSoundSense (sense_of entry.meaning) }
+        requires closed { FitsBehind self.old (entry_of entry) }
         ensures ok { OnOk result (self.new ≡ self.old ++ entry_of entry ∷ []) }
         ensures err { OnErr result (self.new ≡ self.old) }
     {
@@ -119,15 +136,20 @@ impl Env {
     }
 
     /// Binds the names of a module, each behind the prefix if there is one, that aren't bound yet, in their
-    /// order. Terms are shared.
+    /// order. None of them is bound to another statement, and entries of one statement mean the same. Terms
+    /// are shared.
     ///
     /// # Errors
     ///
     /// `NoMemory` where they can't be kept; nothing is bound then.
     pub fn import(&mut self, imported: &Env, prefix: Option<&str>) -> Result<(), NoMemory>
+        requires origins { AgreeOnOrigins self.old (there imported.now) }
+        requires fits { first_clash self.old (all_passed_on (option_copied prefix) imported.now) ≡ None }
+        requires prefix { IfSome (option_copied prefix) IsNameText }
         ensures ok { OnOk result (self.new ≡ self.old ++ new_in self.old (all_passed_on (option_copied prefix.entry) imported.now)) }
         ensures err { OnErr result (self.new ≡ self.old) }
     {
+        imported.closed();
         let entries = new_entries(self, imported, prefix)?;
         self.keep_plain()?;
         self.entries.append(entries)

@@ -16,7 +16,7 @@ use std::rc::Rc;
 use std::test::Fail;
 
 /// A text as a string.
-fn string(text: Text) -> Result<String, Fail> {
+pub(crate) fn string(text: Text) -> Result<String, Fail> {
     match String::from_utf8(text.into_vec()) {
         Ok(text) => Ok(text),
         Err(_) => Err(Fail::new("no text")),

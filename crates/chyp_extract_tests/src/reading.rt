@@ -1,13 +1,17 @@
 // Terms that are read from texts.
-ghost use Rattle.std.specs.Prelude.{◌≡◌, ◌≤◌, IfOk, IsTrue, length};
+ghost use Rattle.std.specs.Prelude.{◌≡◌, ◌≤◌, List, IfOk, IsTrue, length};
+ghost use Rattle.chyp_lex.specs.Names.{IsNameText};
 ghost use Rattle.chyp_lex.specs.Tokens.{AreSpans, AreTokens};
 ghost use Rattle.chyp_syntax.specs.Term.{tree_of};
 ghost use Rattle.chyp_term.specs.Limits.{IsWithinLimits};
-ghost use Rattle.chyp_env.specs.Entry.{sense_of};
+ghost use Rattle.chyp_env.specs.Closed.{FitsBehind};
+ghost use Rattle.chyp_env.specs.Entry.{entry_of, sense_of};
+ghost use Rattle.chyp_env.specs.Environment.{Binding};
 ghost use Rattle.chyp_env.specs.Expansion.{expansion_in};
 ghost use Rattle.chyp_env.specs.Scope.{meaning_at};
 ghost use Rattle.chyp_env.specs.Sound.{IsSoundSense};
 
+use crate::names::check_name;
 use crate::words::{told, wires};
 use chyp_base::{MAX_TEXT_LEN, Name};
 use chyp_env::{ChunkView, Entry, Env, KnownTerm, Meaning, Origin, Scope, sizes_of};
@@ -34,8 +38,10 @@ fn shape(alloc: Global, from: usize, to: usize) -> Result<Shape, Fail>
 fn entry(alloc: Global, name: &str, shape: Shape) -> Result<Entry, Fail>
     requires dom { length shape.dom ≤ 64 }
     requires cod { length shape.cod ≤ 64 }
+    requires name { IsNameText name.now }
     ensures name { IfOk result (λ entry. entry.name ≡ name.now) }
     ensures sound { IfOk result (λ entry. IsSoundSense (sense_of entry.meaning)) }
+    ensures fits { IfOk result (λ entry. (env : List Binding) → FitsBehind env (entry_of entry)) }
 {
     let module = Name::new(alloc, "")?;
     Ok(Entry {
@@ -50,6 +56,7 @@ fn add(alloc: Global, env: &mut Env, name: &str, shape: Shape) -> Result<(), Fai
     requires dom { length shape.dom ≤ 64 }
     requires cod { length shape.cod ≤ 64 }
 {
+    check_name(alloc, name)?;
     let entry = entry(alloc, name, shape)?;
     if env.lookup(name.as_bytes()).is_some() {
         return Err(Fail::new("a name that is there"));
@@ -80,7 +87,7 @@ pub(crate) fn bound(alloc: Global, generators: &[(&str, usize, usize)]) -> Resul
 }
 
 /// The tokens of a text.
-fn tokens_of(alloc: Global, text: &[u8]) -> Result<Vec<Token>, Fail>
+pub(crate) fn tokens_of(alloc: Global, text: &[u8]) -> Result<Vec<Token>, Fail>
     requires { length text.now ≤ MAX_TEXT_LEN }
     ensures tokens { IfOk result (λ tokens. AreTokens text.now tokens.items) }
     ensures spans { IfOk result (λ tokens. AreSpans (length text.now) tokens.items) }
@@ -89,7 +96,7 @@ fn tokens_of(alloc: Global, text: &[u8]) -> Result<Vec<Token>, Fail>
 }
 
 /// A statement by its tokens.
-fn lent<'a>(text: &'a [u8], tokens: &'a [Token]) -> ChunkView<'a>
+pub(crate) fn lent<'a>(text: &'a [u8], tokens: &'a [Token]) -> ChunkView<'a>
     requires short { length text.now ≤ MAX_TEXT_LEN }
     requires tokens { AreTokens text.now tokens.now }
     requires spans { AreSpans (length text.now) tokens.now }

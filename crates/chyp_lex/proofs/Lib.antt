@@ -5,4 +5,7 @@ pub mod TokenLists
 pub mod NameSteps
 pub mod NumberSteps
 pub mod LexemeSteps
+pub mod Extending
+pub mod Cutting
+pub mod Joining
 pub mod TextOfNames

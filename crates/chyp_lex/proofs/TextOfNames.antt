@@ -1,5 +1,5 @@
--- The bytes of a name are UTF-8, since it is made of characters that were decoded.
-use Rattle.std.proofs.Common.{◌≡◌, ℕ, ◌+◌, Bool, IsTrue, List, [], ◌∷◌, length, take, drop, slice_get, Some, refl, sym, ap, subst, ◌∙◌, rules}
+-- The bytes of a name are UTF-8, since it is made of characters that were decoded, and a name by themselves.
+use Rattle.std.proofs.Common.{◌≡◌, ℕ, ◌+◌, Bool, IsTrue, List, [], ◌∷◌, length, take, drop, slice_get, Some, inl, inr, refl, sym, ap, subst, ◌∙◌, rules}
 use Rattle.std.proofs.Math.Seq.{take-add, take-append_seam}
 use Rattle.std.proofs.lemmas.List.{drop-drop}
 use Rattle.std.proofs.lemmas.List.Elements.{All-cons, All-nil}
@@ -12,8 +12,9 @@ use Rattle.bstr.proofs.lemmas.SoundLemmas.{SpellsChar-decoded}
 use Rattle.chyp_lex.specs.declared.token.Token.{Token}
 use Rattle.chyp_lex.specs.declared.token.TokenKind.{TokenKind}
 use Rattle.chyp_lex.specs.Lexemes.{BeginsWith, BeginsWithCharacter, BeginsWithIdentifier, BeginsWithMany, BeginsWithMember, BeginsWithDotted, BeginsWithSymbol, begins_identifier, no_more, one_more, identifier, member, dotted_name, colon, arrow, equals, semicolon, star, left_parenthesis, right_parenthesis, left_bracket, right_bracket, comma, minus, question_mark, word, dotted, number, too_large, symbol}
-use Rattle.chyp_lex.specs.Names.{is_name, NamesAreText}
+use Rattle.chyp_lex.specs.Names.{is_name, IsNameText, NamesAreText}
 use Rattle.chyp_lex.specs.Tokens.{AreTokensFrom, IsNext, token_at, token_text, lexeme, bad, nothing_left, passed_over, read}
+use Rattle.chyp_lex.proofs.Cutting.{dotted-alone, identifier-alone, name-kind}
 
 -- two pieces of text behind one another
 both : (m n : ℕ) (text : List ℕ) → IsUtf8 (take m text) → IsUtf8 (take n (drop m text)) → IsUtf8 (take (m + n) text)
@@ -60,27 +61,27 @@ no_symbol text n kind comma h = absurd cc
 no_symbol text n kind minus h = absurd cc
 no_symbol text n kind question_mark h = absurd cc
 
-lexeme-text : (text : List ℕ) (n : ℕ) (kind : TokenKind) → BeginsWith text n (Some kind) → IsTrue (is_name kind) → IsUtf8 (take n text)
-lexeme-text text n kind (word at) h = identifier-text text n at
-lexeme-text text n kind (dotted at) h = dotted-text text n at
+lexeme-text : (text : List ℕ) (n : ℕ) (kind : TokenKind) → BeginsWith text n (Some kind) → IsTrue (is_name kind) → IsUtf8 (take n text) × IsNameText (take n text)
+lexeme-text text n kind (word at) h = (identifier-text text n at, inl (identifier-alone text n at, name-kind (take n text) h))
+lexeme-text text n kind (dotted at) h = (dotted-text text n at, inr (dotted-alone text n at))
 lexeme-text text n kind (number run small) h = absurd cc
 lexeme-text text n kind (too_large run large) h = absurd cc
 lexeme-text text n kind (symbol at) h = absurd (no_symbol text n kind at h)
 
-next-text : (text : List ℕ) (n : ℕ) (kind : TokenKind) → IsNext text n (Some kind) → IsTrue (is_name kind) → IsUtf8 (take n text)
+next-text : (text : List ℕ) (n : ℕ) (kind : TokenKind) → IsNext text n (Some kind) → IsTrue (is_name kind) → IsUtf8 (take n text) × IsNameText (take n text)
 next-text text n kind (lexeme longest) h = lexeme-text text n kind longest.begins h
 next-text text n kind (bad some none) h = absurd cc
 
 abbrev IsTextIn : List ℕ → Token → Type 0
-IsTextIn whole token = IsTrue (is_name token.kind) → IsUtf8 (token_text whole token)
+IsTextIn whole token = IsTrue (is_name token.kind) → IsUtf8 (token_text whole token) × IsNameText (token_text whole token)
 
 from : (whole : List ℕ) (start : ℕ) (text : List ℕ) (tokens : List Token) → text ≡ drop start whole → AreTokensFrom start text tokens → NamesAreText whole tokens
 from whole start text tokens e nothing_left = All-nil (IsTextIn whole)
 from whole start text tokens e (passed_over {n = n} next rest) = from whole (start + n) (drop n text) tokens (ap (drop n) e ∙ drop-drop n start whole) rest
 from whole start text tokens e (read {n = n} {kind = kind} {tokens = others} next rest) =
-    All-cons (IsTextIn whole) (token_at start text n kind) others (λ h. subst (λ t. IsUtf8 (take n t)) e (next-text text n kind next h))
+    All-cons (IsTextIn whole) (token_at start text n kind) others (λ h. subst (λ t. IsUtf8 (take n t) × IsNameText (take n t)) e (next-text text n kind next h))
     (from whole (start + n) (drop n text) others (ap (drop n) e ∙ drop-drop n start whole) rest)
 
--- the names of a text are UTF-8
+-- the names of a text are UTF-8, and names by themselves
 pub names_are_text : (text : List ℕ) (tokens : List Token) → AreTokensFrom 0 text tokens → NamesAreText text tokens
 names_are_text text tokens are = from text 0 text tokens refl are

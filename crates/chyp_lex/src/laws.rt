@@ -8,7 +8,7 @@ pub fn every_text_has_one_token_list()
     ensures { (text : List ℕ) → HasOneTokenList text }
 {}
 
-/// The bytes of each identifier and of each dotted name are UTF-8.
+/// The bytes of each identifier and of each dotted name are UTF-8, and are a name by themselves.
 pub fn each_name_is_text()
     ensures { EachNameIsText }
 {}

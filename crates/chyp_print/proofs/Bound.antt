@@ -1,18 +1,24 @@
 -- The first names of generators in a sound environment mean them.
-use Rattle.std.proofs.Common.{◌≡◌, ℕ, Bool, true, false, List, [], ◌∷◌, Some, find, is_some, refl, sym, ap, subst, ◌∙◌, ⊎_elim}
-use Rattle.std.specs.Prelude.{◌&&◌}
+use Rattle.std.proofs.Common.{◌≡◌, ◌⊎◌, ℕ, Bool, true, false, cond, List, [], ◌∷◌, Some, find, is_some, inl, inr, refl, sym, ap, subst, ◌∙◌, ⊎_elim, arith}
+use Rattle.std.specs.Cmp.Lexicographic.{pointwise}
+use Rattle.std.specs.Prelude.{◌&&◌, Contains}
 use Rattle.std.specs.Option.{option_map_or}
 use Rattle.std.specs.Str.{bytes_eq}
 use Rattle.std.proofs.lemmas.Bool.{cases_Bool, cond-false, cond-true, false≢true}
 use Rattle.std.proofs.lemmas.Slice.Eq.{bytes_eq-Decides, slice_eq-Decides}
+use Rattle.std.proofs.lemmas.List.Elements.{All-contains}
+use Rattle.chyp_base.specs.Sort.{same_sort}
 use Rattle.chyp_base.specs.declared.sort.Sort.{Sort}
+use Rattle.chyp_lex.specs.Names.{IsNameText}
 use Rattle.chyp_base.proofs.SortEquality.{same_sort-Decides}
 use Rattle.chyp_term.specs.Derivation.{empty}
 use Rattle.chyp_term.specs.Morphism.{Morphism, generator, permutation, then, beside}
+use Rattle.chyp_env.specs.Closed.{HasBoundGenerators, IsBoundGenerator, IsClosed}
 use Rattle.chyp_env.specs.Environment.{Binding, Sense, abbreviation, binding_of, broken, generator as a_generator, is_bound, law, unproved}
 use Rattle.chyp_env.specs.Scope.{term_of}
 use Rattle.chyp_env.specs.Sound.{HasDistinctNames}
-use Rattle.chyp_print.specs.Environments.{AreBound, IsBound, NamesMeanGenerators, first_names, is_generator, meaning_in}
+use Rattle.chyp_env.proofs.Bindings.{Contains-cons, Contains-from_cons}
+use Rattle.chyp_print.specs.Environments.{HasPlainPermutations, NamesMeanGenerators, first_binding, first_names, is_generator, meaning_in}
 use Rattle.chyp_print.specs.Reading.{IsNamed}
 
 both-true : (p q : Bool) → p && q ≡ true → (p ≡ true) × (q ≡ true)
@@ -60,20 +66,53 @@ found test (b ∷ rest) binding distinct h =
     (cases_Bool (bytes_eq binding.name b.name)))
     (cases_Bool (test b.sense))
 
-bound-means : (env : List Binding) (n : List ℕ) (a b : List Sort) → HasDistinctNames env → (h : IsBound env n a b) → meaning_in env (first_names env n a b) ≡ generator n a b
+-- what passes a test is found, or something in front of it
+found-some : (test : Sense → Bool) (env : List Binding) (b : Binding) → Contains env b → test b.sense ≡ true
+    → (first : Binding) × (find (λ x. test x.sense) env ≡ Some first) × Contains env first
+found-some test [] b has passes = absurd (omega (arith, has.1))
+found-some test (x ∷ env) b has passes = go (test x.sense) refl (Contains-from_cons x env b has) (λ d. found-some test env b d passes)
+  where
+    go : (c : Bool) → test x.sense ≡ c → (x ≡ b) ⊎ Contains env b
+        → (Contains env b → (first : Binding) × (find (λ y. test y.sense) env ≡ Some first) × Contains env first)
+        → (first : Binding) × (cond c (Some x) (find (λ y. test y.sense) env) ≡ Some first) × Contains (x ∷ env) first
+    go true e here rest = (x, refl, (0, omega arith, refl))
+    go false e (inl same) rest = absurd (false≢true (sym e ∙ ap (λ (y : Binding). test y.sense) same ∙ passes))
+    go false e (inr there) rest = let f = rest there in (f.0, f.1, Contains-cons x env f.0 f.2)
+
+is_generator-itself : (n : List ℕ) (a b : List Sort) → is_generator n a b (a_generator n a b) ≡ true
+is_generator-itself n a b =
+    let name : bytes_eq n n ≡ true = (bytes_eq-Decides n n).1 refl in
+    let from : pointwise same_sort a a ≡ true = (slice_eq-Decides same_sort-Decides a a _ refl).1 refl in
+    let to : pointwise same_sort b b ≡ true = (slice_eq-Decides same_sort-Decides b b _ refl).1 refl in
+    rw (name, from, to) refl
+
+-- a generator that has a binding has a first one, whose name is read as one name
+record HasFirst (env : List Binding) (n : List ℕ) (a b : List Sort) : Type 0 where
+  binding : Binding
+  first : first_binding env n a b ≡ Some binding
+  name : IsNameText binding.name
+
+has-first : (env : List Binding) (n : List ℕ) (a b : List Sort) → IsClosed env → IsBoundGenerator env n a b → HasFirst env n a b
+has-first env n a b closed g =
+    let passes : is_generator n a b g.binding.sense ≡ true = ap (is_generator n a b) g.is ∙ is_generator-itself n a b in
+    let found = found-some (is_generator n a b) env g.binding g.has passes in
+    record { binding = found.0; first = found.1; name = All-contains (λ (x : Binding). IsNameText x.name) env found.0 closed.names found.2 }
+
+bound-means : (env : List Binding) (n : List ℕ) (a b : List Sort) → HasDistinctNames env → (h : HasFirst env n a b) → meaning_in env (first_names env n a b) ≡ generator n a b
 bound-means env n a b distinct h =
     let is = found (is_generator n a b) env h.binding distinct h.first in
     let name : first_names env n a b ≡ h.binding.name = ap (λ o. option_map_or (λ (binding : Binding). binding.name) o []) h.first in
     let there : meaning_in env h.binding.name ≡ term_of h.binding.sense = ap (λ o. option_map_or (λ (binding : Binding). term_of binding.sense) o empty) is.named in
     ap (meaning_in env) name ∙ there ∙ ap term_of (is_generator-is n a b h.binding.sense is.passes)
 
-bound-named : (env : List Binding) (t : Morphism) → HasDistinctNames env → AreBound env t → IsNamed (first_names env) (meaning_in env) t
-bound-named env (generator n a b) distinct h =
+bound-named : (env : List Binding) (t : Morphism) → HasDistinctNames env → IsClosed env → HasPlainPermutations t → HasBoundGenerators env t → IsNamed (first_names env) (meaning_in env) t
+bound-named env (generator n a b) distinct closed plain g =
+    let h = has-first env n a b closed g in
     let name : first_names env n a b ≡ h.binding.name = ap (λ o. option_map_or (λ (binding : Binding). binding.name) o []) h.first in
     (rw name h.name, bound-means env n a b distinct h)
-bound-named env (permutation a p) distinct h = h
-bound-named env (then s t) distinct h = (bound-named env s distinct h.0, bound-named env t distinct h.1)
-bound-named env (beside s t) distinct h = (bound-named env s distinct h.0, bound-named env t distinct h.1)
+bound-named env (permutation a p) distinct closed plain h = plain
+bound-named env (then s t) distinct closed plain h = (bound-named env s distinct closed plain.0 h.0, bound-named env t distinct closed plain.1 h.1)
+bound-named env (beside s t) distinct closed plain h = (bound-named env s distinct closed plain.0 h.0, bound-named env t distinct closed plain.1 h.1)
 
 pub names-mean : NamesMeanGenerators
-names-mean env t sound c = record { typed = c.typed; named = bound-named env t sound.distinct c.bound; shallow = c.shallow; small = c.small }
+names-mean env t sound closed c = record { typed = c.typed; named = bound-named env t sound.distinct closed c.plain c.bound; shallow = c.shallow }

@@ -18,7 +18,7 @@ use Rattle.chyp_lex.proofs.NameSteps.{character_len-ascii_fails, character_len-e
 use Rattle.chyp_lex.proofs.Names.{character-bounds, character_len-exact, character_len-le-length, Identifier-reaches, Members-no_dot, identifier_len-some, member_len-no_dot, member_len-some, members-reach, slice_get-first}
 use Rattle.chyp_lex.proofs.Pieces.{name_of-dotted, name_of-word, next-name-some, next-number, number_of-fits}
 use Rattle.chyp_lex.proofs.Repeats.{Many-exact, repeated-go, repeated-stop}
-use Rattle.chyp_print.proofs.Extending.{dotted-more, identifier-more}
+use Rattle.chyp_lex.proofs.Extending.{dotted-more, identifier-more}
 
 -- a byte that is in no name and in no number
 pub record IsEnd (b : ℕ) : Type 0 where

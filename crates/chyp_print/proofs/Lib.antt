@@ -1,4 +1,3 @@
-pub mod Extending
 pub mod Lexing
 pub mod Spelling
 pub mod Fronts

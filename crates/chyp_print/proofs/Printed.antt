@@ -17,9 +17,9 @@ use Rattle.chyp_lex.proofs.Pieces.{name-byte-otherwise}
 use Rattle.chyp_syntax.specs.Numbered.{NumberedToken, kind_of, value_of}
 use Rattle.chyp_syntax.specs.Sentence.{AreNumbers, more_numbers, one_number}
 use Rattle.chyp_term.specs.Morphism.{Morphism, beside, generator, permutation, then}
-use Rattle.chyp_print.specs.Names.{IsNameText}
+use Rattle.chyp_lex.specs.Names.{IsNameText}
 use Rattle.chyp_print.specs.Printing.{Naming, permutation_text, printed_in, with_commas}
-use Rattle.chyp_print.proofs.Extending.{dotted-more, identifier-more}
+use Rattle.chyp_lex.proofs.Extending.{dotted-more, identifier-more}
 use Rattle.chyp_print.proofs.Lexing.{Ends, blank-ends, comma-ends, dotted-next, left_bracket-ends, number-next, parenthesis-ends, right_bracket-ends, word-next}
 use Rattle.chyp_print.specs.Reading.{IsNamed}
 use Rattle.chyp_lex.specs.declared.token.Token.{Token}

@@ -1,5 +1,5 @@
 -- Terms that are printed with the names of an environment.
-use Rattle.std.specs.Prelude.{◌≡◌, ℕ, ◌<◌, ◌≤◌, ◌^◌, Bool, false, ◌&&◌, List, [], Option, Some, find, length}
+use Rattle.std.specs.Prelude.{◌≡◌, ℕ, ◌≤◌, Bool, false, ◌&&◌, List, [], Option, Some, find, length}
 use Rattle.std.specs.Cmp.Lexicographic.{pointwise}
 use Rattle.std.specs.Option.{option_map_or}
 use Rattle.std.specs.Str.{bytes_eq}
@@ -7,13 +7,13 @@ use Rattle.chyp_base.specs.declared.sort.Sort.{Sort}
 use Rattle.chyp_base.specs.Sort.{same_sort}
 use Rattle.chyp_syntax.specs.Sentence.{most_nested}
 use Rattle.chyp_term.specs.Derivation.{empty}
-use Rattle.chyp_term.specs.Measure.{depth_of, size_of}
+use Rattle.chyp_term.specs.Measure.{depth_of}
 use Rattle.chyp_term.specs.Morphism.{Morphism, generator, permutation, then, beside, IsTyped}
+use Rattle.chyp_env.specs.Closed.{HasBoundGenerators, IsClosed}
 use Rattle.chyp_env.specs.Environment.{Binding, Sense, generator as a_generator, binding_of}
 use Rattle.chyp_env.specs.Expansion.{plain_wires}
 use Rattle.chyp_env.specs.Scope.{term_of}
 use Rattle.chyp_env.specs.Sound.{IsSound}
-use Rattle.chyp_print.specs.Names.{IsNameText}
 use Rattle.chyp_print.specs.Printing.{Naming, printed_by}
 use Rattle.chyp_print.specs.Reading.{CanBePrinted}
 
@@ -38,27 +38,22 @@ printed env t = printed_by (first_names env) t
 abbrev pub meaning_in : List Binding → List ℕ → Morphism
 meaning_in env name = option_map_or (λ binding. term_of binding.sense) (binding_of env name) empty
 
--- a generator has a binding, whose name is read as one name
-pub record IsBound (env : List Binding) (n : List ℕ) (a b : List Sort) : Type 0 where
-  pub binding : Binding
-  pub first : first_binding env n a b ≡ Some binding
-  pub name : IsNameText binding.name
+-- the wires of the term's permutations are plain
+abbrev pub HasPlainPermutations : Morphism → Type 0
+HasPlainPermutations (generator n a b) = Unit {0}
+HasPlainPermutations (permutation a p) = a ≡ plain_wires (length a)
+HasPlainPermutations (then s t) = HasPlainPermutations s × HasPlainPermutations t
+HasPlainPermutations (beside s t) = HasPlainPermutations s × HasPlainPermutations t
 
--- so has each generator of the term, and its wires are plain
-abbrev pub AreBound : List Binding → Morphism → Type 0
-AreBound env (generator n a b) = IsBound env n a b
-AreBound env (permutation a p) = a ≡ plain_wires (length a)
-AreBound env (then s t) = AreBound env s × AreBound env t
-AreBound env (beside s t) = AreBound env s × AreBound env t
-
--- what is asked of a term that is printed in an environment
+-- what is asked of a term that is printed in an environment: it is typed, its permutations are of plain wires, each of its
+-- generators has a binding, and it is at most 256 deep
 pub record CanBePrintedIn (env : List Binding) (t : Morphism) : Type 0 where
   pub typed : IsTyped t
-  pub bound : AreBound env t
+  pub plain : HasPlainPermutations t
+  pub bound : HasBoundGenerators env t
   pub shallow : depth_of t ≤ most_nested
-  pub small : size_of t < 2 ^ 64
 
--- in a sound environment the first names of its generators mean them, so the text of a term is read back
+-- in a sound and closed environment the first names of its generators mean them, so the text of a term is read back
 abbrev pub NamesMeanGenerators : Type 0
-NamesMeanGenerators = (env : List Binding) (t : Morphism) → IsSound env → CanBePrintedIn env t
+NamesMeanGenerators = (env : List Binding) (t : Morphism) → IsSound env → IsClosed env → CanBePrintedIn env t
     → CanBePrinted (first_names env) (meaning_in env) t

@@ -1,9 +1,18 @@
 // Permutations as texts.
 ghost use Rattle.std.specs.Prelude.{◌≡◌, ◌++◌, codes, decimal, false, true, IfOk};
 ghost use Rattle.chyp_print.specs.Printing.{permutation_text, with_commas};
+ghost use Rattle.chyp_print.specs.Reading.{AreSmall};
 
 use chyp_base::NoMemory;
+use chyp_term::Perm;
 use itoa::Buffer;
+
+/// The places of every permutation are below 2^64, since it has fewer.
+pub(crate) fn small(perm: &Perm)
+    ensures { AreSmall perm.now }
+{
+    let _ = perm.places();
+}
 
 /// Adds the text of the permutation with these places.
 pub(crate) fn push_permutation(out: &mut Vec<u8>, places: &[u32]) -> Result<(), NoMemory>

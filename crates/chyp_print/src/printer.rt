@@ -2,11 +2,11 @@
 ghost use Rattle.std.specs.Prelude.{◌≡◌, ◌++◌, IfOk};
 ghost use Rattle.chyp_term.specs.Term.{morphism_of};
 ghost use Rattle.chyp_print.specs.Printing.{printed_by, printed_in};
-ghost use Rattle.chyp_print.specs.Reading.{IsReadBack, IsReadBackItself};
+ghost use Rattle.chyp_print.specs.Reading.{HasSmallPlaces, IsReadBack, IsReadBackItself};
 
 use crate::Names;
 use crate::laws::printed_terms_are_read_back;
-use crate::places::push_permutation;
+use crate::places::{push_permutation, small};
 use chyp_base::{NoMemory, Text};
 use chyp_term::Term;
 use std::alloc::Global;
@@ -28,7 +28,8 @@ pub fn print<N: Names>(alloc: Global, term: &Term, names: &N) -> Result<Text, No
 
 /// The text of a term.
 fn written<N: Names>(alloc: Global, term: &Term, names: &N) -> Result<Text, NoMemory>
-    ensures { IfOk result (λ text. text ≡ printed_by (N.naming names.now) (morphism_of term.now)) }
+    ensures text { IfOk result (λ text. text ≡ printed_by (N.naming names.now) (morphism_of term.now)) }
+    ensures small { IfOk result (λ _. HasSmallPlaces (morphism_of term.now)) }
 {
     let mut out = Vec::new(alloc);
     push_term(&mut out, term, names, false)?;
@@ -42,13 +43,17 @@ fn push_term<N: Names>(
     names: &N,
     in_tensor: bool,
 ) -> Result<(), NoMemory>
-    ensures { IfOk result (λ _. out.new.items ≡ out.old.items ++ printed_in (N.naming names.now) in_tensor (morphism_of term.now)) }
+    ensures text { IfOk result (λ _. out.new.items ≡ out.old.items ++ printed_in (N.naming names.now) in_tensor (morphism_of term.now)) }
+    ensures small { IfOk result (λ _. HasSmallPlaces (morphism_of term.now)) }
 {
     match term {
         Term::Gen { name, dom, cod } => {
             Ok(out.extend_from_slice(names.name_of(name, dom, cod).as_bytes())?)
         }
-        Term::Perm { perm, .. } => push_permutation(out, perm.places()),
+        Term::Perm { perm, .. } => {
+            small(perm);
+            push_permutation(out, perm.places())
+        }
         Term::Seq(first, second) => {
             if in_tensor {
                 out.push(b'(')?;

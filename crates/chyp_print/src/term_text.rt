@@ -15,8 +15,9 @@ use chyp_env::Env;
 use chyp_term::Term;
 use std::alloc::Global;
 
-/// The text of a term, with each generator by the first name that stands for it in an environment. It
-/// takes time in proportion to the text and to the environment, which it goes through once, and goes by
+/// The text of a term, with each generator by the first name that stands for it in an environment. The term
+/// is typed, its permutations are of plain wires, each of its generators has an entry, and it is at most 256
+/// deep. It takes time in proportion to the text and to the environment, which it goes through once, and goes by
 /// recursion as deep as the term.
 ///
 /// # Errors
@@ -30,6 +31,7 @@ pub fn print_term(alloc: Global, term: &Term, env: &Env) -> Result<Text, NoMemor
         → ReadsAs (meaning_in env.now) text (morphism_of term.now)) }
 {
     env.sound();
+    env.closed();
     printed_terms_are_read_back();
     let names = FirstNames::of(alloc, env)?;
     print(alloc, term, &names)

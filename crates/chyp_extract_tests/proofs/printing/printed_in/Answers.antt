@@ -7,13 +7,7 @@ use Rattle.chyp_print.specs.Environments.{CanBePrintedIn}
 use Rattle.chyp_extract_tests.proofs.printing.printed_in.Goals as goal
 
 can-be-printed : (env : List Binding) (t : Morphism) → t ≡ permutation (plain ∷ plain ∷ []) (1 ∷ 0 ∷ []) → IsTyped t → CanBePrintedIn env t
-can-be-printed env t e typed =
-    subst (CanBePrintedIn env) (sym e) (record {
-      typed = subst IsTyped e typed;
-      bound = refl;
-      shallow = omega arith;
-      small = omega arith;
-    })
+can-be-printed env t e typed = subst (CanBePrintedIn env) (sym e) (record { typed = subst IsTyped e typed; plain = refl; bound = tt; shallow = omega arith })
 
 pub print_term-requires : goal.print_term-requires
 print_term-requires c = can-be-printed c.args.env.now _ c.in_ok-term.ensures (c.if-not-is_good.ensures.typed refl)

@@ -13,7 +13,7 @@ returns-clause-back c =
     let t = morphism_of c.args.term.now in
     let env = c.args.env.now in
     let named : CanBePrinted (first_names c.in_ok-names.names) (meaning_in env) t =
-    subst (λ e. CanBePrinted (first_names e) (meaning_in env) t) (sym c.in_ok-names.ensures) (c.printed_terms_are_read_back.ensures.names env t c.sound.ensures c.requires) in
+    subst (λ e. CanBePrinted (first_names e) (meaning_in env) t) (sym c.in_ok-names.ensures) (c.printed_terms_are_read_back.ensures.names env t c.sound.ensures c.closed.ensures c.requires) in
     IfOk-weaker c.print.result (λ text. IsReadBack (first_names c.in_ok-names.names) t text) (λ text. ReadsAs (meaning_in env) text (rehalved t)) (λ text back. back (meaning_in env) named)
     c.print.ensures.back
 
@@ -22,6 +22,6 @@ returns-clause-itself c =
     let t = morphism_of c.args.term.now in
     let env = c.args.env.now in
     let named : CanBePrinted (first_names c.in_ok-names.names) (meaning_in env) t =
-    subst (λ e. CanBePrinted (first_names e) (meaning_in env) t) (sym c.in_ok-names.ensures) (c.printed_terms_are_read_back.ensures.names env t c.sound.ensures c.requires) in
+    subst (λ e. CanBePrinted (first_names e) (meaning_in env) t) (sym c.in_ok-names.ensures) (c.printed_terms_are_read_back.ensures.names env t c.sound.ensures c.closed.ensures c.requires) in
     IfOk-weaker c.print.result (λ text. IsReadBackItself (first_names c.in_ok-names.names) t text) (λ text. (g : PlainGraph) → t ≡ extracted g → ReadsAs (meaning_in env) text t)
     (λ text itself g e. itself (meaning_in env) g e named) c.print.ensures.itself

@@ -19,7 +19,7 @@ module _ (rest : List ℕ) where
       let is : decoded (text ++ rest) ≡ good c.char (length (encode_utf8 c.char)) = ap decoded bytes ∙ decoded-encode c.char (drop (decoded text).size text ++ rest) spelt.scalar in
       record { char = c.char; decodes = ap (λ (d : Decoded). d.char) is; size = ap (λ (d : Decoded). d.size) is ∙ spelt.width ∙ c.size; passes = c.passes }
 
-  many-more : (Piece : List ℕ → ℕ → Type 0) → ((text : List ℕ) (n : ℕ) → Piece text n → n ≤ length text) → ((text : List ℕ) (n : ℕ) → Piece text n → Piece (text ++ rest) n)
+  pub many-more : (Piece : List ℕ → ℕ → Type 0) → ((text : List ℕ) (n : ℕ) → Piece text n → n ≤ length text) → ((text : List ℕ) (n : ℕ) → Piece text n → Piece (text ++ rest) n)
       → {text : List ℕ} {n : ℕ} → BeginsWithMany Piece text n → BeginsWithMany Piece (text ++ rest) n
   many-more Piece fits more no_more = no_more
   many-more Piece fits more (one_more {text} {m} {n} piece others) =
@@ -35,13 +35,13 @@ many-fits Piece fits (one_more {text} {m} {n} piece others) =
 character-fits : (test : ℕ → Bool) (text : List ℕ) (n : ℕ) → BeginsWithCharacter test text n → n ≤ length text
 character-fits test text n c = (character-bounds test text n c).1
 
-identifier-fits : (text : List ℕ) (n : ℕ) → BeginsWithIdentifier text n → n ≤ length text
+pub identifier-fits : (text : List ℕ) (n : ℕ) → BeginsWithIdentifier text n → n ≤ length text
 identifier-fits text n (identifier {m = m} {n = k} first others) =
     let fits = character-fits begins_identifier text m first in
     let cut = length-drop m text in
     omega (arith, many-fits (BeginsWithCharacter is_xid_continue) (character-fits is_xid_continue) others)
 
-member-fits : (text : List ℕ) (n : ℕ) → BeginsWithMember text n → n ≤ length text
+pub member-fits : (text : List ℕ) (n : ℕ) → BeginsWithMember text n → n ≤ length text
 member-fits [] n (member at others) = absurd cc
 member-fits (b ∷ text) n (member {n = k} at others) = omega (arith, identifier-fits text k others)
 
@@ -52,7 +52,7 @@ module _ (rest : List ℕ) where
       identifier (character-more rest begins_identifier text m first) (subst (λ t. BeginsWithMany (BeginsWithCharacter is_xid_continue) t k) (sym cut)
       (many-more rest (BeginsWithCharacter is_xid_continue) (character-fits is_xid_continue) (character-more rest is_xid_continue) others))
 
-  member-more : (text : List ℕ) (n : ℕ) → BeginsWithMember text n → BeginsWithMember (text ++ rest) n
+  pub member-more : (text : List ℕ) (n : ℕ) → BeginsWithMember text n → BeginsWithMember (text ++ rest) n
   member-more [] n (member at others) = absurd cc
   member-more (b ∷ text) n (member {n = k} at others) = member at (identifier-more text k others)
 
@@ -60,3 +60,9 @@ module _ (rest : List ℕ) where
   dotted-more text n (dotted_name {m = m} {n = k} first some others) =
       dotted_name (identifier-more text m first) some
       (subst (λ t. BeginsWithMany BeginsWithMember t k) (sym (drop-append-le m text rest (identifier-fits text m first))) (many-more rest BeginsWithMember member-fits member-more others))
+
+pub dotted-fits : (text : List ℕ) (n : ℕ) → BeginsWithDotted text n → n ≤ length text
+dotted-fits text n (dotted_name {m = m} {n = k} first some others) =
+    let fits = identifier-fits text m first in
+    let cut = length-drop m text in
+    omega (arith, many-fits BeginsWithMember member-fits others)
