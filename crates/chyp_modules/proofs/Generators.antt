@@ -1,5 +1,5 @@
 -- Each generator of a term that a name stands for has a binding of its own.
-use Rattle.std.proofs.Common.{◌≡◌, ℕ, zero, suc, ◌-◌, List, [], ◌∷◌, ◌++◌, length, take, drop, Option, Some, None, slice_get, All, ◌⊎◌, inl, inr, refl, ◌∙◌, ap, subst, arith}
+use Rattle.std.proofs.Common.{◌≡◌, ℕ, zero, suc, ◌-◌, List, [], ◌∷◌, ◌++◌, length, map, take, drop, Option, Some, None, slice_get, All, ◌⊎◌, inl, inr, refl, ◌∙◌, ap, subst, arith}
 use Rattle.std.specs.Prelude.{Contains, ◌/◌}
 use Rattle.std.specs.List.{cons_option}
 use Rattle.std.specs.Option.{option_map, option_map_or}
@@ -21,6 +21,7 @@ use Rattle.chyp_env.specs.Scope.{binding_at, meaning_at, term_of}
 use Rattle.chyp_env.specs.Site.{Imported, there, Site}
 use Rattle.chyp_names.specs.Binding.{Binds, nothing, again, anew, imports, StandsFor, a_declared_generator, a_term, a_rule, a_proved_rewrite, an_unproved_rewrite, a_broken_statement}
 use Rattle.chyp_names.specs.Elaboration.{expansion_at, fault_of_module, import_fault, prefix_at, terms_of}
+use Rattle.chyp_names.specs.Trees.{goals_of}
 use Rattle.chyp_verdicts.proofs.OneVerdict.{slice_get-read}
 use Rattle.chyp_verdicts.proofs.SomeBinding.{refused-bad}
 use Rattle.chyp_modules.specs.Library.{Library}
@@ -114,7 +115,7 @@ goals-bound : (s : Site) → AreBound s.scope.env → (steps : List StepTree) �
 goals-bound s bound [] = All-nil (HasBoundGenerators s.scope.env)
 goals-bound s bound (step ∷ steps) = go step.goal (goals-bound s bound steps)
   where
-    go : (g : Option TermTree) → All (HasBoundGenerators s.scope.env) (goals_at s steps) → All (HasBoundGenerators s.scope.env) (cons_option (option_map (expansion_at s.scope) g) (goals_at s steps))
+    go : (g : Option TermTree) → All (HasBoundGenerators s.scope.env) (goals_at s steps) → All (HasBoundGenerators s.scope.env) (map (expansion_at s.scope) (cons_option g (goals_of steps)))
     go None rest = rest
     go (Some tree) rest = All-cons (HasBoundGenerators s.scope.env) (expansion_at s.scope tree) (goals_at s steps) (expansion-bound s bound tree) rest
 

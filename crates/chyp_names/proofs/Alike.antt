@@ -3,7 +3,7 @@ use Rattle.std.proofs.Common.{◌≡◌, ℕ, ◌+◌, ◌<◌, ◌≤◌, List,
 use Rattle.std.proofs.lemmas.List.{map-append, take_all, append_assoc, append-nil}
 use Rattle.std.proofs.lemmas.List.Elements.{All-nil, All-cons, All-head, All-append}
 use Rattle.chyp_syntax.specs.declared.statement.Ast.{Ast}
-use Rattle.chyp_syntax.specs.declared.statement.Ast.TheVariants.{RuleDecl, RewriteDecl}
+use Rattle.chyp_syntax.specs.declared.statement.Ast.TheVariants.{LetDecl, RuleDecl, RewriteDecl}
 use Rattle.chyp_syntax.specs.declared.step.StepAst.{StepAst}
 use Rattle.chyp_syntax.specs.declared.term.TermAst.{TermAst}
 use Rattle.chyp_syntax.specs.Statement.{statement_of}
@@ -120,17 +120,26 @@ alike first others typed all =
     let each = All-cons (IsEquation first) first others itself all in
     λ k d within k' d' within'. between first _ _ (each k d within) (each k' d' within')
 
+-- the tests of a `let` are those of its tree
+pub let_holds : (scope : Scope) (ast : Ast) (name : ℕ) (tree : TermAst) → ast ≡ LetDecl name tree → AllHold (tests_of (meaning_at scope) (tree_of tree))
+    → AllHold (tests_at scope (statement_of ast))
+let_holds scope ast name tree is hold =
+    subst (λ a. AllHold (tests_at scope (statement_of a))) (sym is) (subst AllHold (sym (append-nil (tests_of (meaning_at scope) (tree_of tree)))) hold)
+
 -- the terms of a rule
 module _ (scope : Scope) (ast : Ast) (name : ℕ) (left : TermAst) (equals : ℕ) (right : TermAst) (is : ast ≡ RuleDecl name left equals right) where
   rule_tests : tests_of (meaning_at scope) (tree_of left) ++ tests_of_other (meaning_at scope) (expansion_at scope (tree_of left)) equals (tree_of right) ≡ tests_at scope (statement_of ast)
-  rule_tests = ap (λ a. tests_at scope (statement_of a)) (sym is)
+  rule_tests =
+      ap (λ ts. tests_of (meaning_at scope) (tree_of left) ++ ts) (sym (append-nil (tests_of_other (meaning_at scope) (expansion_at scope (tree_of left)) equals (tree_of right))))
+      ∙ ap (λ a. tests_at scope (statement_of a)) (sym is)
 
   pub rule_holds : AllHold (tests_of (meaning_at scope) (tree_of left)) → Agrees scope (expansion_at scope (tree_of left)) equals (tree_of right)
       → AllHold (tests_at scope (statement_of ast))
   rule_holds hold h =
       subst AllHold rule_tests (hold-both (tests_of (meaning_at scope) (tree_of left)) (tests_of_other (meaning_at scope) (expansion_at scope (tree_of left)) equals (tree_of right)) hold h.0)
 
-  pub rule_alike : (home : List ℕ) → IsTyped (expansion_at scope (tree_of left)) → Agrees scope (expansion_at scope (tree_of left)) equals (tree_of right) → AreTypedAlike (terms_in home scope (statement_of ast))
+  pub rule_alike : (home : List ℕ) → IsTyped (expansion_at scope (tree_of left)) → Agrees scope (expansion_at scope (tree_of left)) equals (tree_of right)
+      → AreTypedAlike (terms_in home scope (statement_of ast))
   rule_alike home typed h =
       let other = h.1 in
       subst (λ a. AreTypedAlike (terms_in home scope (statement_of a))) (sym is)

@@ -1,22 +1,23 @@
 -- The first of some answers, where a loop looks at one item after another.
-use Rattle.std.proofs.Common.{◌≡◌, ℕ, zero, suc, ◌+◌, ◌<◌, ◌≤◌, List, [], ◌∷◌, ◌++◌, flat_map, length, take, slice_get, slice_index_or, Option, None, Some, refl, sym, ap, ap₂, subst, ◌∙◌, arith, is_some, true≢false, true, false}
+use Rattle.std.proofs.Common.{◌≡◌, ℕ, zero, suc, ◌+◌, ◌<◌, ◌≤◌, List, [], ◌∷◌, ◌++◌, flat_map, length, take, slice_get}
+use Rattle.std.proofs.Common.{slice_index_or, Option, None, Some, refl, sym, ap, ap₂, subst, ◌∙◌, arith, is_some, true≢false, true, false}
 use Rattle.std.specs.List.{filter_map}
 use Rattle.std.proofs.lemmas.List.{take_all}
 use Rattle.std.proofs.lemmas.List.Elements.{filter_map-append}
 
-pub nil_left : {V : Type 0} (xs ys : List V) → xs ++ ys ≡ [] → xs ≡ []
-nil_left [] ys e = refl
-nil_left (x ∷ xs) ys e = absurd (suc≢0 (ap length e))
+-- two lists that make no item together have none
+nil_both : {V : Type 0} (xs ys : List V) → xs ++ ys ≡ [] → (xs ≡ []) × (ys ≡ [])
+nil_both [] ys e = (refl, e)
+nil_both (x ∷ xs) ys e = absurd (suc≢0 (ap length e))
   where
     suc≢0 : length (x ∷ (xs ++ ys)) ≡ 0 → ⊥
     suc≢0 e = omega arith
 
+pub nil_left : {V : Type 0} (xs ys : List V) → xs ++ ys ≡ [] → xs ≡ []
+nil_left xs ys e = (nil_both xs ys e).0
+
 pub nil_right : {V : Type 0} (xs ys : List V) → xs ++ ys ≡ [] → ys ≡ []
-nil_right [] ys e = e
-nil_right (x ∷ xs) ys e = absurd (suc≢0 (ap length e))
-  where
-    suc≢0 : length (x ∷ (xs ++ ys)) ≡ 0 → ⊥
-    suc≢0 e = omega arith
+nil_right xs ys e = (nil_both xs ys e).1
 
 -- the first of two lists' answers
 pub first_left : {V : Type 0} (xs ys : List V) → is_some (slice_get xs 0) ≡ true → slice_get (xs ++ ys) 0 ≡ slice_get xs 0

@@ -1,12 +1,12 @@
 -- The terms of goals, step by step, and how big they are together.
-use Rattle.std.proofs.Common.{◌≡◌, ℕ, zero, suc, ◌+◌, ◌<◌, ◌≤◌, List, [], ◌∷◌, ◌++◌, map, length, take, drop, slice_index_or, All, Option, None, Some, refl, sym, ap, subst, ◌∙◌, arith, IsTrue, is_some, true≢false, Bool}
-use Rattle.std.specs.List.{filter_map}
+use Rattle.std.proofs.Common.{◌≡◌, ℕ, zero, suc, ◌+◌, ◌<◌, ◌≤◌, List, [], ◌∷◌, ◌++◌, map, length, take, drop}
+use Rattle.std.proofs.Common.{slice_index_or, All, Option, None, Some, refl, sym, ap, subst, ◌∙◌, arith, IsTrue, is_some, true≢false, Bool}
 use Rattle.std.proofs.lemmas.List.{map-append, take-append-drop, take_all}
 use Rattle.std.proofs.lemmas.List.Elements.{All-nil, All-cons, All-head, All-tail, All-append, filter_map-append}
 use Rattle.std.proofs.lemmas.List.Sums.{sum_by-append}
 use Rattle.chyp_syntax.specs.declared.step.StepAst.{StepAst}
 use Rattle.chyp_syntax.specs.declared.term.TermAst.{TermAst}
-use Rattle.chyp_syntax.specs.Step.{step_of}
+use Rattle.chyp_syntax.specs.Step.{StepTree, step_of}
 use Rattle.chyp_syntax.specs.Term.{tree_of}
 use Rattle.chyp_term.specs.Measure.{size_of}
 use Rattle.chyp_term.specs.Morphism.{Morphism}
@@ -16,7 +16,8 @@ use Rattle.chyp_syntax.specs.Statement.{statement_of}
 use Rattle.chyp_term.specs.Limits.{IsWithinLimits}
 use Rattle.chyp_env.specs.Scope.{Scope}
 use Rattle.chyp_names.specs.Elaboration.{expansion_at, terms_in}
-use Rattle.chyp_names.specs.Goals.{goal_term, goal_terms, FitBehind, IsSum}
+use Rattle.chyp_names.specs.Goals.{goal_terms, FitBehind, IsSum}
+use Rattle.chyp_names.specs.Trees.{goals_of}
 use Rattle.chyp_names.specs.Limits.{AreWithinLimits, HasFewPorts, most_together}
 
 -- one step more
@@ -32,7 +33,10 @@ pub take_whole : {X : Type 0} (xs : List X) (k : ℕ) (x : X) → k < length xs 
 take_whole xs k x within is = ap (λ ys. ys ++ drop (k + 1) xs) (sym (take_more xs k x within is)) ∙ take-append-drop (k + 1) xs
 
 pub goal_terms-append : (scope : Scope) (steps others : List StepAst) → goal_terms scope (steps ++ others) ≡ goal_terms scope steps ++ goal_terms scope others
-goal_terms-append scope steps others = ap (filter_map (goal_term scope)) (map-append step_of steps others) ∙ filter_map-append (goal_term scope) (map step_of steps) (map step_of others)
+goal_terms-append scope steps others =
+    ap (λ xs. map (expansion_at scope) (goals_of xs)) (map-append step_of steps others)
+    ∙ ap (map (expansion_at scope)) (filter_map-append (λ (step : StepTree). step.goal) (map step_of steps) (map step_of others))
+    ∙ map-append (expansion_at scope) (goals_of (map step_of steps)) (goals_of (map step_of others))
 
 pub all_front : {X : Type 0} (P : X → Type 0) (xs ys : List X) → All P (xs ++ ys) → All P xs
 all_front P [] ys h = All-nil P

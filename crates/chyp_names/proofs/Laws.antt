@@ -17,7 +17,8 @@ use Rattle.chyp_env.specs.Environment.{Sense, generator, abbreviation, law, unpr
 use Rattle.chyp_env.specs.Scope.{Scope, binding_at}
 use Rattle.chyp_names.specs.Elaboration.{reason_at}
 use Rattle.chyp_names.specs.Laws.{is_law, IsLawAt, RestsOnLaws}
-use Rattle.chyp_names.specs.Naming.{Use, in_reason, names_of_reason, uses_in, uses_in_goal, uses_in_step, fault_of, fault_in_reason, fault_or_unknown, unproved_use, unproved_token, first_fault, first_unproved}
+use Rattle.chyp_names.specs.Naming.{Use, in_reason, names_of_reason, uses_in, uses_in_goal, uses_in_step, fault_of}
+use Rattle.chyp_names.specs.Naming.{fault_in_reason, fault_or_unknown, unproved_use, unproved_token, first_fault, first_unproved}
 use Rattle.chyp_names.proofs.Firsts.{nil_left, nil_right, none_first}
 use Rattle.chyp_names.proofs.Uses.{unproved_of_rewrite, unproved_in_step, step_uses}
 

@@ -1,4 +1,5 @@
 pub mod Alike
+pub mod Closing
 pub mod Firsts
 pub mod Goals
 pub mod Laws

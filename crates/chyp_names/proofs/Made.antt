@@ -1,5 +1,6 @@
 -- The names and the terms that a statement makes.
-use Rattle.std.proofs.Common.{◌≡◌, ℕ, ◌+◌, ◌<◌, ◌≤◌, List, [], ◌∷◌, ◌++◌, map, length, take, drop, arith, slice_index_or, All, Option, None, Some, refl, sym, ap, subst, ◌∙◌, Bool, true, false, ◌&&◌, true≢false, is_some, unwrap_or, cond, ◌==◌, append_assoc}
+use Rattle.std.proofs.Common.{◌≡◌, ℕ, ◌+◌, ◌<◌, List, [], ◌∷◌, ◌++◌, length, take, drop, arith, slice_index_or, All, Option, None}
+use Rattle.std.proofs.Common.{Some, refl, sym, ap, subst, ◌∙◌, Bool, true, false, ◌&&◌, true≢false, is_some, unwrap_or, cond, ◌==◌, append_assoc}
 use Rattle.std.specs.Str.{IsUtf8}
 use Rattle.std.proofs.lemmas.List.Elements.{All-head, All-tail}
 use Rattle.chyp_lex.specs.declared.token.TokenKind.{TokenKind}

@@ -1,13 +1,14 @@
 -- The terms of trees and of statements whose tests hold are typed.
-use Rattle.std.proofs.Common.{cond, true, false, ◌≡◌, ℕ, List, [], ◌∷◌, Option, Some, None, refl, sym, ◌∙◌, subst}
-use Rattle.std.specs.Prelude.{slice_index, slice_get, option_map}
-use Rattle.std.specs.List.{All, filter_map}
+use Rattle.std.proofs.Common.{cond, true, false, ◌≡◌, ℕ, List, [], ◌∷◌, ◌++◌, Option, Some, None, refl, sym, ◌∙◌, subst}
+use Rattle.std.specs.Prelude.{map, slice_index, slice_get}
+use Rattle.std.specs.List.{All}
 use Rattle.std.proofs.lemmas.List.Elements.{All-nil, All-cons, All-head, All-tail}
 use Rattle.std.specs.Option.{option_map_or}
 use Rattle.std.specs.Str.{bytes_eq}
 use Rattle.chyp_term.specs.Derivation.{IsEquation, empty as nothing}
 use Rattle.chyp_term.specs.Morphism.{Morphism, dom, cod, IsTyped}
 use Rattle.chyp_syntax.specs.declared.step.ReasonAst.{ReasonAst}
+use Rattle.chyp_syntax.specs.declared.step.ReasonAst.TheVariants.{Plain}
 use Rattle.chyp_syntax.specs.Statement.{StatementTree, generator, definition, rule, rewrite, inclusion, showing}
 use Rattle.chyp_syntax.specs.Step.{StepTree}
 use Rattle.chyp_syntax.specs.Term.{TermTree, TermTrees, named, wire, empty, swap, chain, beside, no_terms, term}
@@ -21,6 +22,7 @@ use Rattle.chyp_env.specs.Typing.{Test, permutes, meets, agrees, AllHold, tests_
 use Rattle.chyp_env.proofs.Rows.{behind-linked}
 use Rattle.chyp_env.proofs.Holding.{hold-front, hold-behind, hold-head, hold-tail}
 use Rattle.chyp_env.proofs.Typed.{no_place, one_place, two_places, plain_typed, typed-beside, typed-then}
+use Rattle.chyp_names.specs.Trees.{goals_of}
 use Rattle.chyp_names.specs.Typing.{tests_of_other, tests_of_steps}
 
 mutual
@@ -72,14 +74,14 @@ other-alike meaning typed first first-typed equals tree h =
 
 -- so has each goal of steps whose tests hold
 steps-alike : (meaning : ℕ → Morphism) → ((k : ℕ) → IsTyped (meaning k)) → (first : Morphism) → IsTyped first → (steps : List StepTree)
-    → AllHold (tests_of_steps meaning first steps) → All (IsEquation first) (filter_map (λ step. option_map (expansion_in meaning) step.goal) steps)
+    → AllHold (tests_of_steps meaning first steps) → All (IsEquation first) (map (expansion_in meaning) (goals_of steps))
 steps-alike meaning typed first first-typed [] h = All-nil (IsEquation first)
 steps-alike meaning typed first first-typed (step ∷ steps) h = at step.goal step.equals step.reason (steps-alike meaning typed first first-typed steps) h
   where
     at : (goal : Option TermTree) (equals : ℕ) (reason : ReasonAst)
-        → (AllHold (tests_of_steps meaning first steps) → All (IsEquation first) (filter_map (λ step. option_map (expansion_in meaning) step.goal) steps))
+        → (AllHold (tests_of_steps meaning first steps) → All (IsEquation first) (map (expansion_in meaning) (goals_of steps)))
         → AllHold (tests_of_steps meaning first (record { equals = equals; goal = goal; reason = reason } ∷ steps))
-        → All (IsEquation first) (filter_map (λ step. option_map (expansion_in meaning) step.goal) (record { equals = equals; goal = goal; reason = reason } ∷ steps))
+        → All (IsEquation first) (map (expansion_in meaning) (goals_of (record { equals = equals; goal = goal; reason = reason } ∷ steps)))
     at None equals reason rest h = rest h
     at (Some tree) equals reason rest h =
         let own = tests_of_other meaning first equals tree in
@@ -92,24 +94,25 @@ alike-list m ms first typed others e =
     let same : m ≡ first = cc in
     subst (λ (x : Morphism). All (IsEquation x) (m ∷ ms)) same (All-cons (IsEquation m) m ms (equation-same m typed) others)
 
--- the terms of a statement whose tests hold are typed, and have the type of the first one
+-- the terms of trees whose tests hold are typed, and have the type of the first one
+trees-alike : (scope : Scope) → ((k : ℕ) → IsTyped (meaning_at scope k)) → (tree : TermTree) (steps : List StepTree)
+    → AllHold (tests_of (meaning_at scope) tree ++ tests_of_steps (meaning_at scope) (expansion_at scope tree) steps) → (first : Morphism)
+    → Some (expansion_at scope tree) ≡ Some first
+    → All (IsEquation first) (expansion_at scope tree ∷ map (expansion_at scope) (goals_of steps))
+trees-alike scope typed tree steps h first e =
+    let meaning = meaning_at scope in
+    let m = expansion_at scope tree in
+    let front = typed-of-tests meaning typed tree (hold-front (tests_of meaning tree) (tests_of_steps meaning m steps) h) in
+    alike-list m _ first front (steps-alike meaning typed m front steps (hold-behind (tests_of meaning tree) (tests_of_steps meaning m steps) h)) e
+
+-- so are those of a statement
 pub statement-alike : (site : Site) → ((k : ℕ) → IsTyped (meaning_at site.scope k)) → (tree : StatementTree) → AllHold (tests_at site.scope tree)
     → (first : Morphism) → slice_get (terms_of site tree) 0 ≡ Some first → All (IsEquation first) (terms_of site tree)
 statement-alike site typed (generator name dom cod) h first e = alike-list _ [] first tt (All-nil (IsEquation _)) e
-statement-alike site typed (definition name tree) h first e =
-    alike-list (expansion_at site.scope tree) [] first (typed-of-tests (meaning_at site.scope) typed tree h) (All-nil (IsEquation (expansion_at site.scope tree))) e
+statement-alike site typed (definition name tree) h first e = trees-alike site.scope typed tree [] h first e
 statement-alike site typed (rule name left equals right) h first e =
-    let meaning = meaning_at site.scope in
-    let m = expansion_at site.scope left in
-    let front = typed-of-tests meaning typed left (hold-front (tests_of meaning left) (tests_of_other meaning m equals right) h) in
-    let behind = hold-behind (tests_of meaning left) (tests_of_other meaning m equals right) h in
-    alike-list m (expansion_at site.scope right ∷ []) first front
-    (All-cons (IsEquation m) (expansion_at site.scope right) [] (other-alike meaning typed m front equals right behind) (All-nil (IsEquation m))) e
-statement-alike site typed (rewrite name tree steps) h first e =
-    let meaning = meaning_at site.scope in
-    let m = expansion_at site.scope tree in
-    let front = typed-of-tests meaning typed tree (hold-front (tests_of meaning tree) (tests_of_steps meaning m steps) h) in
-    alike-list m _ first front (steps-alike meaning typed m front steps (hold-behind (tests_of meaning tree) (tests_of_steps meaning m steps) h)) e
+    trees-alike site.scope typed left (record { equals = equals; goal = Some right; reason = Plain } ∷ []) h first e
+statement-alike site typed (rewrite name tree steps) h first e = trees-alike site.scope typed tree steps h first e
 statement-alike site typed (inclusion imported prefix) h first e = All-nil (IsEquation first)
 statement-alike site typed (showing name) h first e = All-nil (IsEquation first)
 

@@ -5,14 +5,15 @@ use Rattle.std.proofs.lemmas.List.{map-append}
 use Rattle.std.proofs.lemmas.List.Elements.{filter_map-append}
 use Rattle.chyp_syntax.specs.declared.term.TermAst.{TermAst}
 use Rattle.chyp_syntax.specs.declared.term.TermAst.TheVariants.{Named, Wire, Empty, Swap, Chain, Beside}
+use Rattle.chyp_syntax.specs.declared.step.ReasonAst.TheVariants.{Plain}
 use Rattle.chyp_syntax.specs.declared.step.SignedAst.{SignedAst}
 use Rattle.chyp_syntax.specs.declared.step.StepAst.{StepAst}
 use Rattle.chyp_syntax.specs.Step.{StepTree, step_of}
 use Rattle.chyp_syntax.specs.Term.{TermTree, terms_of, tree_of}
 use Rattle.chyp_syntax.proofs.Trees.{tree_of-Named, tree_of-Wire, tree_of-Empty, tree_of-Swap, tree_of-Chain, tree_of-Beside}
-use Rattle.chyp_names.specs.Naming.{Use, in_term, in_reason, names_in, names_in_all, names_of_reason, uses_in, uses_in_goal, uses_in_step, unproved_use, first_unproved}
+use Rattle.chyp_names.specs.Naming.{Use, in_term, in_reason, names_in, names_in_all, names_of_reason, uses_in, uses_in_goal, uses_in_step, uses_of, unproved_use, first_unproved}
 use Rattle.chyp_names.specs.Faults.{first_unproved_among}
-use Rattle.chyp_syntax.specs.Statement.{statement_of}
+use Rattle.chyp_syntax.specs.Statement.{rule as a_rule, statement_of}
 use Rattle.chyp_syntax.specs.declared.statement.Ast.{Ast}
 use Rattle.chyp_syntax.specs.declared.statement.Ast.TheVariants.{GenDecl, LetDecl, RuleDecl, RewriteDecl, ImportDecl, ShowDecl}
 use Rattle.chyp_env.specs.Scope.{Scope}
@@ -86,15 +87,20 @@ uses_of_chain tree parts items semis is same = ap part_uses is ∙ uses_in-Chain
 pub uses_of_tensor : (tree : TermAst) (parts items : List TermAst) → tree ≡ Beside parts → items ≡ parts → part_uses tree ≡ flat_map part_uses items
 uses_of_tensor tree parts items is same = ap part_uses is ∙ uses_in-Beside parts ∙ ap (flat_map part_uses) (sym same)
 
-unproved_in_two : (scope : Scope) (left right : TermTree) → filter_map (unproved_use scope) (uses_in left ++ uses_in right) ≡ []
-unproved_in_two scope left right = unproved_of_rewrite scope left (uses_in right) ∙ unproved_in_tree scope (names_in right)
+-- nor does a rule
+unproved_in_rule : (scope : Scope) (name : ℕ) (left : TermTree) (equals : ℕ) (right : TermTree) → filter_map (unproved_use scope) (uses_of (a_rule name left equals right)) ≡ []
+unproved_in_rule scope name left equals right =
+    let step : StepTree = record { equals = equals; goal = Some right; reason = Plain } in
+    unproved_of_rewrite scope left (flat_map uses_in_step (step ∷ [])) ∙ filter_map-append (unproved_use scope) (uses_in_step step) []
+    ∙ ap (λ vs. vs ++ []) (unproved_in_step scope step)
 
 -- only a rewrite rests on rewrites
 pub unproved_elsewhere : (scope : Scope) (ast : Ast) → ((name : ℕ) (first : TermAst) (steps : List StepAst) → ¬ (ast ≡ RewriteDecl name first steps))
     → None ≡ first_unproved scope (statement_of ast)
 unproved_elsewhere scope (GenDecl name dom cod) h = refl
-unproved_elsewhere scope (LetDecl name tree) h = sym (ap (λ vs. slice_get vs 0) (unproved_in_tree scope (names_in (tree_of tree))))
-unproved_elsewhere scope (RuleDecl name left equals right) h = sym (ap (λ vs. slice_get vs 0) (unproved_in_two scope (tree_of left) (tree_of right)))
+unproved_elsewhere scope (LetDecl name tree) h = sym (ap (λ vs. slice_get vs 0) (unproved_of_rewrite scope (tree_of tree) []))
+unproved_elsewhere scope (RuleDecl name left equals right) h =
+    sym (ap (λ vs. slice_get vs 0) (unproved_in_rule scope name (tree_of left) equals (tree_of right)))
 unproved_elsewhere scope (RewriteDecl name first steps) h = absurd (h name first steps refl)
 unproved_elsewhere scope (ImportDecl imported prefix) h = refl
 unproved_elsewhere scope (ShowDecl name) h = refl

@@ -1,13 +1,13 @@
 -- The terms and steps of a statement, and what refuses it: the first of these points that holds.
 use Rattle.std.specs.Prelude.{◌≡◌, ℕ, Bool, true, false, IsTrue, List, [], ◌∷◌, ◌++◌, map, Option, None, Some, option_map, is_none, codes, if◌then◌else◌}
-use Rattle.std.specs.List.{filter_map, list_any}
+use Rattle.std.specs.List.{list_any}
 use Rattle.std.specs.Option.{option_map_or}
 use Rattle.chyp_base.specs.declared.verdict.Verdict.{Verdict}
-use Rattle.chyp_base.specs.declared.verdict.Verdict.TheVariants.{Declared, NotBuilt, NoModule, Cycle, Clash, TooBig, Mistyped, Unproved}
+use Rattle.chyp_base.specs.declared.verdict.Verdict.TheVariants.{Declared, NoModule, Cycle, Clash, TooBig, Mistyped, Unproved}
 use Rattle.chyp_syntax.specs.declared.step.ReasonAst.{ReasonAst}
 use Rattle.chyp_syntax.specs.declared.step.ReasonAst.TheVariants.{Plain, Rule, Simp}
 use Rattle.chyp_syntax.specs.declared.step.SignedAst.{SignedAst}
-use Rattle.chyp_syntax.specs.Statement.{StatementTree, generator, definition, rule, rewrite, inclusion, showing}
+use Rattle.chyp_syntax.specs.Statement.{StatementTree, generator, rewrite, inclusion}
 use Rattle.chyp_syntax.specs.Term.{TermTree}
 use Rattle.chyp_syntax.specs.Words.{bytes_at}
 use Rattle.chyp_term.specs.Derivation.{empty}
@@ -22,6 +22,7 @@ use Rattle.chyp_env.specs.Typing.{Test, AllHold, FailsFirst}
 use Rattle.chyp_names.specs.declared.body.Body.{Body}
 use Rattle.chyp_names.specs.Limits.{AreWithinLimits}
 use Rattle.chyp_names.specs.Naming.{first_fault, first_unproved}
+use Rattle.chyp_names.specs.Trees.{steps_of, trees_of}
 use Rattle.chyp_names.specs.Typing.{tests_of_statement}
 
 -- the name of a generator in terms: its identifier in the main text, and `MODULE/IDENTIFIER` in a module
@@ -33,16 +34,11 @@ generator_name home name = home ++ codes "/" ++ name
 abbrev pub expansion_at : Scope → TermTree → Morphism
 expansion_at scope tree = expansion_in (meaning_at scope) tree
 
--- the terms of a statement in the module of this name, in the order of the text; that of a `gen` is the generator
+-- the terms of a statement in the module of this name: those of its trees, and that of a `gen` is the generator
 abbrev pub terms_in : List ℕ → Scope → StatementTree → List Morphism
 terms_in home scope (generator name dom cod) =
     a_generator (generator_name home (bytes_at scope.words name)) (plain_wires dom) (plain_wires cod) ∷ []
-terms_in home scope (definition name tree) = expansion_at scope tree ∷ []
-terms_in home scope (rule name left equals right) = expansion_at scope left ∷ expansion_at scope right ∷ []
-terms_in home scope (rewrite name first steps) =
-    expansion_at scope first ∷ filter_map (λ step. option_map (expansion_at scope) step.goal) steps
-terms_in home scope (inclusion imported prefix) = []
-terms_in home scope (showing name) = []
+terms_in home scope tree = map (expansion_at scope) (trees_of tree)
 
 -- those of a statement where it stands
 abbrev pub terms_of : Site → StatementTree → List Morphism
@@ -72,10 +68,9 @@ abbrev pub steps_at : Scope → StatementTree → List Reason
 steps_at scope (rewrite name first steps) = map (λ step. reason_at scope step.reason) steps
 steps_at scope _ = []
 
--- a step of a rewrite is a hole; the grammar lets only the last one be
+-- a step is a hole; the grammar lets only the last one of a rewrite be
 abbrev pub has_hole : StatementTree → Bool
-has_hole (rewrite name first steps) = list_any (λ step. is_none step.goal) steps
-has_hole _ = false
+has_hole tree = list_any (λ step. is_none step.goal) (steps_of tree)
 
 -- the tests of a statement where it stands
 abbrev pub tests_at : Scope → StatementTree → List Test
@@ -91,9 +86,9 @@ abbrev pub prefix_at : Scope → Option ℕ → Option (List ℕ)
 prefix_at scope token = option_map (bytes_at scope.words) token
 
 -- What is wrong with an import, None where it is in order: its module is absent, or reaches itself, or a name would be bound
--- to a second statement. (Where nothing is known of its module it isn't built yet.)
+-- to a second statement.
 abbrev pub fault_of_module : List Binding → Imported → Option (List ℕ) → Option Verdict
-fault_of_module env nothing prefix = Some NotBuilt
+fault_of_module env nothing prefix = None
 fault_of_module env absent prefix = Some (NoModule 1)
 fault_of_module env on_cycle prefix = Some (Cycle 1)
 fault_of_module env (there bindings) prefix = option_map Clash (first_clash env (all_passed_on prefix bindings))

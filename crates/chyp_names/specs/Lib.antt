@@ -7,5 +7,6 @@ pub mod Laws
 pub mod Limits
 pub mod Naming
 pub mod Outcome
+pub mod Trees
 pub mod Typing
 pub mod Refusal

@@ -5,11 +5,12 @@ use Rattle.chyp_base.specs.declared.verdict.Verdict.{Verdict}
 use Rattle.chyp_base.specs.declared.verdict.Verdict.TheVariants.{Unknown, Broken, Kind}
 use Rattle.chyp_syntax.specs.declared.step.ReasonAst.{ReasonAst}
 use Rattle.chyp_syntax.specs.declared.step.ReasonAst.TheVariants.{Plain, Rule, Simp}
-use Rattle.chyp_syntax.specs.Statement.{StatementTree, generator as a_generator, definition, rule, rewrite, inclusion, showing}
+use Rattle.chyp_syntax.specs.Statement.{StatementTree, showing}
 use Rattle.chyp_syntax.specs.Step.{StepTree}
 use Rattle.chyp_syntax.specs.Term.{TermTree, TermTrees, named, wire, empty, swap, chain, beside, no_terms, term}
 use Rattle.chyp_env.specs.Environment.{Sense, generator, abbreviation, law, unproved, broken, Binding}
 use Rattle.chyp_env.specs.Scope.{Scope, binding_at}
+use Rattle.chyp_names.specs.Trees.{first_tree, steps_of}
 
 -- a name that is used, by the number of its token: in a term, behind a `by`, or behind a `show`
 pub data Use : Type 0 where
@@ -42,7 +43,7 @@ names_of_reason (Simp rules) = map (λ signed. signed.name) rules
 abbrev pub uses_in : TermTree → List Use
 uses_in tree = map in_term (names_in tree)
 
--- the names in the goal of a step, if it has one
+-- the names in a tree, if there is one
 abbrev pub uses_in_goal : Option TermTree → List Use
 uses_in_goal None = []
 uses_in_goal (Some tree) = uses_in tree
@@ -53,12 +54,8 @@ uses_in_step step = uses_in_goal step.goal ++ map in_reason (names_of_reason ste
 
 -- the names that a statement uses, in the order of the text; its own name and those of an import are none of them
 abbrev pub uses_of : StatementTree → List Use
-uses_of (a_generator name dom cod) = []
-uses_of (definition name tree) = uses_in tree
-uses_of (rule name left equals right) = uses_in left ++ uses_in right
-uses_of (rewrite name first steps) = uses_in first ++ flat_map uses_in_step steps
-uses_of (inclusion imported prefix) = []
 uses_of (showing name) = in_show name ∷ []
+uses_of tree = uses_in_goal (first_tree tree) ++ flat_map uses_in_step (steps_of tree)
 
 -- what is wrong with a name of this sense in a term
 abbrev pub fault_in_term : Sense → ℕ → Option Verdict

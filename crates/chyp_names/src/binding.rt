@@ -7,6 +7,7 @@ ghost use Rattle.chyp_lex.specs.declared.token.TokenKind.TheVariants.{WordGen};
 ghost use Rattle.chyp_syntax.specs.Heading.{declared_name};
 ghost use Rattle.chyp_term.specs.Equation.{equation_of};
 ghost use Rattle.chyp_term.specs.Term.{morphism_of};
+ghost use Rattle.chyp_env.specs.Closed.{FitsBehind};
 ghost use Rattle.chyp_env.specs.Entry.{sense_of};
 ghost use Rattle.chyp_env.specs.Environment.{is_bound};
 ghost use Rattle.chyp_env.specs.Import.{AgreeOnOrigins};
@@ -197,6 +198,7 @@ fn bind_name(
     requires free { is_bound env.old name.now ≡ false }
     requires spelled { IsUtf8 name.now }
     requires sound { IsSoundSense (sense_of meaning) }
+    requires closed { FitsBehind env.old (record { name = name.now; origin = («module».now, index); sense = sense_of meaning }) }
     ensures ok { OnOk result (env.new ≡ env.old ++ record { name = name.now; origin = («module».now, index); sense = sense_of meaning }
         ∷ []) }
     ensures err { OnErr result (env.new ≡ env.old) }
@@ -251,6 +253,8 @@ pub fn bind(
         return Ok(());
     };
     chunk.spelled();
+    chunk.named();
+    env.closed();
     let alloc = env.allocator();
     let terms = needed(alloc, terms(body), verdict)?;
     let meaning = meaning(chunk.keyword(), terms, verdict)?;
@@ -287,6 +291,8 @@ pub fn bind_owned(
         return Ok(());
     };
     chunk.spelled();
+    chunk.named();
+    env.closed();
     let alloc = env.allocator();
     let terms = into_terms(alloc, body);
     let meaning = meaning(chunk.keyword(), terms, verdict)?;

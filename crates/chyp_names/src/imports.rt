@@ -1,9 +1,10 @@
 // What is wrong with imports, and what they bind.
-ghost use Rattle.std.specs.Prelude.{◌≡◌, ℕ, List, Option, IfOk, OnOk, OnErr, option_copied, option_map};
+ghost use Rattle.std.specs.Prelude.{◌≡◌, ℕ, List, None, Option, IfOk, OnOk, OnErr, option_copied, option_map};
 ghost use Rattle.chyp_base.specs.declared.verdict.Verdict.TheVariants.{Accepted};
 ghost use Rattle.chyp_syntax.specs.Sentence.{IsSentence};
 ghost use Rattle.chyp_syntax.specs.Statement.{inclusion, statement_of};
 ghost use Rattle.chyp_syntax.specs.Words.{bytes_at};
+ghost use Rattle.chyp_env.specs.Import.{AgreeOnOrigins, all_passed_on, first_clash};
 ghost use Rattle.chyp_env.specs.ImportState.{imported_of, site_of};
 ghost use Rattle.chyp_env.specs.Site.{Imported, there};
 ghost use Rattle.chyp_names.specs.Binding.{Binds};
@@ -24,7 +25,7 @@ fn fault_of_module(
     ensures { IfOk result (λ fault. fault ≡ fault_of_module env.now (imported_of import.now) (option_copied prefix.entry)) }
 {
     match import {
-        ImportState::NotImport => Ok(Some(Verdict::NotBuilt)),
+        ImportState::NotImport => Ok(None),
         ImportState::Absent => Ok(Some(Verdict::NoModule { token: 1 })),
         ImportState::OnCycle => Ok(Some(Verdict::Cycle { token: 1 })),
         ImportState::Module(imported) => {
@@ -74,7 +75,8 @@ pub(crate) fn import_fault(
 }
 
 /// Binds the names of the module that an import takes in, behind its prefix, but for those that are bound
-/// already.
+/// already. Nothing clashes, and what the module has from a statement means what the environment has from
+/// it.
 ///
 /// # Errors
 ///
@@ -84,11 +86,14 @@ pub(crate) fn bind_import(
     chunk: &ChunkView<'_>,
     imported: &Env,
 ) -> Result<(), NoMemory>
-    requires import { (word : ℕ) × (as_word : Option ℕ) × IsSentence chunk.now (inclusion word as_word) }
+    requires import { (word : ℕ) × (as_word : Option ℕ) × IsSentence chunk.now (inclusion word as_word)
+        × (first_clash env.old (all_passed_on (option_map (bytes_at chunk.now) as_word) imported.now) ≡ None) }
+    requires origins { AgreeOnOrigins env.old (there imported.now) }
     ensures ok { (home : List ℕ) (import' : Imported) (number : ℕ) → import' ≡ there imported.now → OnOk result
         (Binds (record { scope = record { words = chunk.now; env = env.old }; home = home; imported = import' }) number Accepted env.new) }
     ensures err { OnErr result (env.new ≡ env.old) }
 {
+    chunk.named();
     let prefix = prefix_at(chunk, prefix_token(chunk));
     env.import(imported, prefix)
 }

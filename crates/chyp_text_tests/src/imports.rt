@@ -1,13 +1,15 @@
 // What imports bind, and the names at which they clash.
-ghost use Rattle.std.specs.Prelude.{◌≡◌, [], IfOk, OnOk};
+ghost use Rattle.std.specs.Prelude.{◌≡◌, [], All, IfOk, OnOk};
 ghost use Rattle.chyp_syntax.specs.Sentence.{IsSentence};
 ghost use Rattle.chyp_syntax.specs.Statement.{statement_of};
+ghost use Rattle.chyp_env.specs.Environment.{Binding, broken};
 ghost use Rattle.chyp_env.specs.ImportState.{site_of};
 ghost use Rattle.chyp_env.specs.Site.{IsImportState};
 ghost use Rattle.chyp_names.specs.Binding.{Elaborates, IsRewrite};
 ghost use Rattle.chyp_names.specs.Elaboration.{is_import};
 ghost use Rattle.chyp_names.specs.Typing.{AreTypedAlike};
 
+use crate::names::{check_name, check_prefix};
 use crate::statements::{is_rewrite, lent, tokens_of, tree_of};
 use chyp_base::{Name, Verdict};
 use chyp_env::{ChunkView, Entry, Env, ImportState, Meaning, Origin, Scope, first_clash};
@@ -87,9 +89,12 @@ const CASES: [Case; 9] = [
     },
 ];
 
-/// Binds a name, unless it is bound already.
-fn bind_one(alloc: Global, env: &mut Env, bound: &Bound) -> Result<(), Fail> {
+/// Binds a name to a broken statement, unless it is bound already.
+fn bind_one(alloc: Global, env: &mut Env, bound: &Bound) -> Result<(), Fail>
+    ensures { All (λ (b : Binding). b.sense ≡ broken) env.old → All (λ (b : Binding). b.sense ≡ broken) env.new }
+{
     let (name, module, index) = *bound;
+    check_name(alloc, name)?;
     if env.lookup(name.as_bytes()).is_some() {
         return Ok(());
     }
@@ -105,7 +110,9 @@ fn bind_one(alloc: Global, env: &mut Env, bound: &Bound) -> Result<(), Fail> {
     Ok(())
 }
 
-fn bind_each(alloc: Global, env: &mut Env, names: &[Bound]) -> Result<(), Fail> {
+fn bind_each(alloc: Global, env: &mut Env, names: &[Bound]) -> Result<(), Fail>
+    ensures { All (λ (b : Binding). b.sense ≡ broken) env.old → All (λ (b : Binding). b.sense ≡ broken) env.new }
+{
     for bound in names {
         bind_one(alloc, env, bound)?;
     }
@@ -126,7 +133,11 @@ fn in_words(alloc: Global, env: &Env) -> Result<String, Fail> {
 }
 
 /// What is bound behind the import, or the name at which it clashes.
-fn told(alloc: Global, env: &mut Env, imported: &mut Env, case: &Case) -> Result<String, Fail> {
+fn told(alloc: Global, env: &mut Env, imported: &mut Env, case: &Case) -> Result<String, Fail>
+    requires env { env.old ≡ [] }
+    requires imported { imported.old ≡ [] }
+{
+    check_prefix(alloc, case.prefix)?;
     bind_each(alloc, env, case.here)?;
     bind_each(alloc, imported, case.imported)?;
     if let Some(name) = first_clash(env, imported, case.prefix)? {

@@ -67,15 +67,28 @@ fn refused(alloc: Global, error: ElabError) -> Result<Meant, Fail>
     Ok(Meant { words, body: None })
 }
 
+/// The body of a statement that is read, or what refuses it.
+fn meaning(alloc: Global, env: &Env, chunk: &ChunkView<'_>, ast: &Ast) -> Result<Body, ElabError>
+    requires { IsSentence chunk.now (statement_of ast.now) }
+    ensures body { IfOk result
+        (Elaborates (site_of (record { words = chunk.now; env = env.now }) [] ImportState.NotImport)) }
+    ensures typed { IfOk result (λ body. AreTypedAlike body.terms) }
+{
+    let main = Name::new(alloc, "")?;
+    let scope = Scope::new(chunk, env);
+    match elaborate(alloc, &main, ast, &scope, &ImportState::NotImport) {
+        Ok(body) => Ok(body),
+        Err(error) => Err(error),
+    }
+}
+
 fn elaborated(alloc: Global, env: &Env, chunk: &ChunkView<'_>) -> Result<Meant, Fail>
     ensures body { IfOk result (λ meant. IfSome meant.body
         (Elaborates (site_of (record { words = chunk.now; env = env.now }) [] ImportState.NotImport))) }
     ensures typed { IfOk result (λ meant. IfSome meant.body (λ body. AreTypedAlike body.terms)) }
 {
-    let main = Name::new(alloc, "")?;
     let ast = tree_of(alloc, chunk)?;
-    let scope = Scope::new(chunk, env);
-    match elaborate(alloc, &main, &ast, &scope, &ImportState::NotImport) {
+    match meaning(alloc, env, chunk, &ast) {
         Ok(body) => with_words(alloc, body),
         Err(error) => refused(alloc, error),
     }

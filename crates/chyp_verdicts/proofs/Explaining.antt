@@ -1,8 +1,7 @@
 -- What verdicts say of rewrites is so.
-use Rattle.std.proofs.Common.{◌≡◌, ℕ, suc, ◌+◌, ◌<◌, true, List, [], ◌∷◌, Some, slice_get, All, ◌⊎◌, inl, inr, refl, sym, ◌∙◌, subst, arith}
+use Rattle.std.proofs.Common.{◌≡◌, ℕ, ◌+◌, true, List, Some, slice_get, ◌⊎◌, inl, inr, refl, sym, subst}
 use Rattle.std.specs.Prelude.{Contains}
 use Rattle.std.proofs.lemmas.Bool.{false≢true}
-use Rattle.std.proofs.lemmas.List.Elements.{All-append, All-cons, All-contains, All-nil}
 use Rattle.chyp_base.specs.declared.verdict.Verdict.{Verdict}
 use Rattle.chyp_base.specs.declared.verdict.Verdict.TheVariants as verdict
 use Rattle.chyp_base.specs.declared.verdict.Verdict.TheVariants.{Proved}
@@ -10,27 +9,24 @@ use Rattle.chyp_syntax.specs.Sentence.{IsSentence}
 use Rattle.chyp_syntax.specs.Step.{StepTree}
 use Rattle.chyp_syntax.specs.Term.{TermTree}
 use Rattle.chyp_syntax.specs.Statement.{rule, rewrite, StatementTree}
-use Rattle.chyp_syntax.specs.Words.{Word, bytes_at}
+use Rattle.chyp_syntax.specs.Words.{bytes_at}
 use Rattle.chyp_term.specs.Morphism.{Morphism}
 use Rattle.chyp_term.specs.Step.{Reason, by_laws, by_rule, by_simp}
 use Rattle.chyp_env.specs.Environment.{Binding}
-use Rattle.chyp_env.specs.Site.{Site, there, nothing as nothing'}
+use Rattle.chyp_env.specs.Site.{Site, there}
 use Rattle.chyp_env.specs.Sound.{IsSound}
 use Rattle.chyp_judge.specs.Judged.{IsJudgement, derived, not_derived, rewrites, rewrites_not, simp_limit, simp_wide, simplifies, simplifies_not, wide}
 use Rattle.chyp_judge.specs.declared.judged.Judged.{Judged}
-use Rattle.chyp_names.specs.Binding.{Binds, nothing, again, anew, imports}
 use Rattle.chyp_names.specs.Elaboration.{expansion_at, has_hole, steps_at, terms_of}
-use Rattle.chyp_verdicts.specs.Explained.{Explains, HasProof, HasStep, IsBefore, IsEarlierRule, Order, VerdictsAreExplained}
+use Rattle.chyp_verdicts.specs.Explained.{Explains, HasProof, HasStep, IsEarlierRule, Order}
 use Rattle.chyp_verdicts.specs.Judged.{IsJudged, accepted, by_steps, moves_at, no_sentence, refused}
 use Rattle.chyp_verdicts.specs.Rules.{Cites, IsRewriteOf, Permits, RestsOn, by_name, itself}
 use Rattle.chyp_verdicts.specs.Standing.{Gets, Origin, Standing}
 use Rattle.chyp_verdicts.specs.Steps.{IsVerdictOnSteps, StopsWith, proved, refusal_at, stops, unfinished}
-use Rattle.chyp_verdicts.specs.Texts.{Makes, Stands, at_start, one_more, site, statements_of}
 use Rattle.chyp_env.proofs.Bindings.{binding-found}
-use Rattle.chyp_verdicts.proofs.Derived.{AreLawsDerived, binds-derived, rewrite-derived}
+use Rattle.chyp_verdicts.proofs.Derived.{AreLawsDerived, rewrite-derived}
 use Rattle.chyp_verdicts.proofs.Known.{Known}
 use Rattle.chyp_verdicts.proofs.SomeBinding.{is_refusal, last-there, refused-is, goals_at}
-use Rattle.chyp_verdicts.proofs.Texts.{makes-sound, stands-behind, stands-unique}
 
 abbrev Equation : Type 0
 Equation = Morphism × Morphism
@@ -48,16 +44,14 @@ module _ (known : Known) (Stands : Standing) (Before : Order) (order : AreInOrde
   cited-before : (o : Origin) (s : Site) (binding : Binding) → Stands o s → Cites s binding → Before binding.origin o
   cited-before o s binding st c = order.cited o s binding st (binding-found s.scope.env (bytes_at s.scope.words c.token) binding c.is).0
 
+  -- so does what stands before that
+  before-cited : (o p : Origin) (s : Site) (binding : Binding) → Stands o s → Cites s binding → (p ≡ binding.origin) ⊎ Before p binding.origin → Before p o
+  before-cited o p s binding st c (inl e) = subst (λ (q : Origin). Before q o) (sym e) (cited-before o s binding st c)
+  before-cited o p s binding st c (inr b) = order.chain p binding.origin o b (cited-before o s binding st c)
+
   rests-within : (o p : Origin) → RestsOn Stands o p → (p ≡ o) ⊎ Before p o
   rests-within o p (itself st r) = inl refl
-  rests-within o p (by_name {site = s} {binding} st c r) = inr (go (rests-within binding.origin p r))
-    where
-      before : Before binding.origin o
-      before = cited-before o s binding st c
-
-      go : (p ≡ binding.origin) ⊎ Before p binding.origin → Before p o
-      go (inl e) = subst (λ (q : Origin). Before q o) (sym e) before
-      go (inr b) = order.chain p binding.origin o b before
+  rests-within o p (by_name {site = s} {binding} st c r) = inr (before-cited o p s binding st c (rests-within binding.origin p r))
 
   -- so do the rules on which a rewrite rests
   rests-before : (o p : Origin) (s : Site) (first last : Morphism) → Stands o s → IsRewriteOf s first last → RestsOn Stands o p → Before p o
@@ -66,14 +60,7 @@ module _ (known : Known) (Stands : Standing) (Before : Order) (order : AreInOrde
       let sentence : IsSentence s.scope.words (rule r.name r.left r.equals r.right) = subst (λ (x : Site). IsSentence x.scope.words (rule r.name r.left r.equals r.right)) same r.is_sentence in
       let trees = known.trees s.scope.words (rule r.name r.left r.equals r.right) (rewrite is.name is.tree is.steps) sentence is.is_sentence in
       absurd cc
-  rests-before o p s first last st is (by_name {site = t} {binding} other c r) = go (rests-within binding.origin p r)
-    where
-      before : Before binding.origin o
-      before = cited-before o t binding other c
-
-      go : (p ≡ binding.origin) ⊎ Before p binding.origin → Before p o
-      go (inl e) = subst (λ (q : Origin). Before q o) (sym e) before
-      go (inr b) = order.chain p binding.origin o b before
+  rests-before o p s first last st is (by_name {site = t} {binding} other c r) = before-cited o p t binding other c (rests-within binding.origin p r)
 
   earlier : (o : Origin) (s : Site) (first last : Morphism) → Stands o s → IsRewriteOf s first last → (e : Equation) → Permits Stands o e → IsEarlierRule Stands Before o e
   earlier o s first last st is e p = record { from = p.from; before = rests-before o p.from s first last st is p.rests; rests = p.rests; means = p.means }
@@ -147,47 +134,3 @@ module _ (known : Known) (Stands : Standing) (Before : Order) (order : AreInOrde
           steps-go w (stops s) e = stops-explained o g.site (rewrite name first steps) g.stands t w s
           steps-go w (unfinished a u) e = tt
           steps-go w (proved a u) e = has-proof o g.site name first steps g.stands t (subst (IsJudged g.site) e (by_steps t p x))
-
--- ---- one text
-
-module _ (known : Known) (ss : List (List Word)) where
-  -- every law of an environment is derived from rules on which its origin rests
-  makes-derived : (n : ℕ) (env : List Binding) → Makes ss n env → AreLawsDerived (Stands ss) env
-  makes-derived n env at_start = All-nil _
-  makes-derived n env (one_more {number = m} {env = before} {statement = s} {verdict = v} at k j x) =
-      binds-derived (Stands ss) known m (site before s) (stands-behind known ss m before s at k) (makes-sound known ss m before k) (makes-derived m before k) tt v env j x
-
-  -- a binding is that of an earlier statement
-  abbrev IsEarlier : ℕ → Binding → Type 0
-  IsEarlier n b = b.origin.1 < n
-
-  binds-before : (s : Site) (n : ℕ) (v : Verdict) (next : List Binding) → s.imported ≡ nothing' → All (IsEarlier n) s.scope.env → Binds s n v next → All (IsEarlier (suc n)) next
-  binds-before s n v next alone all (nothing e o) = λ k d h. let one = all k d h in omega arith
-  binds-before s n v next alone all (again e i) = λ k d h. let one = all k d h in omega arith
-  binds-before s n v next alone all (anew {name} {sense} e i x) =
-      let b : Binding = record { name = name; origin = (s.home, n); sense = sense } in
-      All-append (IsEarlier (suc n)) s.scope.env (b ∷ []) (λ k d h. let one = all k d h in omega arith) (All-cons (IsEarlier (suc n)) b [] (omega arith) (All-nil _))
-  binds-before s n v next alone all (imports f t i) = absurd (no-import s alone i)
-    where
-      no-import : (s : Site) {env : List Binding} → s.imported ≡ nothing' → s.imported ≡ there env → ⊥
-      no-import s e f = let both = sym e ∙ f in absurd cc
-
-  makes-before : (n : ℕ) (env : List Binding) → Makes ss n env → All (IsEarlier n) env
-  makes-before n env at_start = All-nil _
-  makes-before n env (one_more {number = m} {env = before} {statement = s} {verdict = v} at k j x) =
-      binds-before (site before s) m v env refl (makes-before m before k) x
-
-  in-order : AreInOrder (Stands ss) IsBefore
-  in-order = record {
-    sound = λ o s st. makes-sound known ss o.1 s.scope.env st.makes;
-    laws = λ o s st. makes-derived o.1 s.scope.env st.makes;
-    one = stands-unique known ss;
-    cited = λ o s b st has. All-contains (IsEarlier o.1) s.scope.env b (makes-before o.1 s.scope.env st.makes) has;
-    chain = λ o p q a b. omega arith;
-  }
-
--- what the verdicts of a text say is so
-pub verdicts-explained : Known → VerdictsAreExplained
-verdicts-explained known text tokens chunks verdicts are number verdict at =
-    let ss = statements_of text tokens chunks in
-    explained known (Stands ss) IsBefore (in-order known ss) ([], number) verdict (are.each number verdict at)

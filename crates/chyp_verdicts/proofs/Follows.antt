@@ -2,7 +2,6 @@
 use Rattle.std.proofs.Common.{◌≡◌, ℕ, suc, ◌+◌, ◌-◌, ◌≤◌, List, [], ◌∷◌, length, map, Option, Some, None, slice_get, All, refl, sym, ◌∙◌, ap, subst, arith}
 use Rattle.std.specs.Prelude.{Contains}
 use Rattle.std.specs.List.{cons_option, filter_map}
-use Rattle.std.specs.Option.{option_map}
 use Rattle.std.proofs.lemmas.List.{length-map}
 use Rattle.std.proofs.lemmas.List.Elements.{All-contains}
 use Rattle.chyp_base.specs.declared.verdict.Verdict.{Verdict}
@@ -18,6 +17,7 @@ use Rattle.chyp_judge.specs.Judged.{IsJudgement}
 use Rattle.chyp_judge.specs.declared.judged.Judged.TheVariants.{Good}
 use Rattle.chyp_env.specs.Site.{Site}
 use Rattle.chyp_names.specs.Elaboration.{Passes, expansion_at, has_hole, reason_at, steps_at, terms_of}
+use Rattle.chyp_names.specs.Trees.{goals_of}
 use Rattle.chyp_names.specs.Typing.{AreTypedAlike}
 use Rattle.chyp_verdicts.specs.Judged.{IsJudged, accepted, by_steps, moves_at, no_sentence, refused}
 use Rattle.chyp_verdicts.specs.Rules.{cited_by, ProvedRewritesFollow}
@@ -63,7 +63,8 @@ kept-few f (x ∷ xs) = go (f x) (kept-few f xs)
 -- a rewrite leads to no more terms than it has steps
 pub goals-few : (site : Site) (steps : List StepTree) → length (goals_at site steps) ≤ length (map (λ (step : StepTree). reason_at site.scope step.reason) steps)
 goals-few site steps =
-    let few = kept-few (λ (step : StepTree). option_map (expansion_at site.scope) step.goal) steps in
+    let few = kept-few (λ (step : StepTree). step.goal) steps in
+    let terms = length-map (goals_of steps) (expansion_at site.scope) in
     let same = length-map steps (λ (step : StepTree). reason_at site.scope step.reason) in
     omega arith
 

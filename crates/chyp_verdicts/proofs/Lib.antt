@@ -10,6 +10,8 @@ pub mod Sound
 pub mod Follows
 pub mod Derived
 pub mod Sites
+pub mod Within
+pub mod Tokens
 pub mod Texts
 pub mod Explaining
 pub mod KnownBelow

@@ -14,7 +14,8 @@ use Rattle.chyp_term.specs.Morphism.{Morphism, generator as a_generator}
 use Rattle.chyp_env.specs.Environment.{Sense, Binding, is_bound}
 use Rattle.chyp_env.specs.Import.{all_passed_on, new_in}
 use Rattle.chyp_env.specs.Site.{Imported, there, Site}
-use Rattle.chyp_names.specs.Binding.{Binds, nothing, again, anew, imports, TakesIn, IsRewrite, StandsFor, a_declared_generator, a_term, a_rule, a_proved_rewrite, an_unproved_rewrite, a_broken_statement}
+use Rattle.chyp_names.specs.Binding.{Binds, nothing, again, anew, imports, TakesIn, IsRewrite}
+use Rattle.chyp_names.specs.Binding.{StandsFor, a_declared_generator, a_term, a_rule, a_proved_rewrite, an_unproved_rewrite, a_broken_statement}
 use Rattle.chyp_names.specs.Elaboration.{prefix_at, terms_of}
 use Rattle.chyp_verdicts.proofs.OneVerdict.{none-some, some-once, true-false}
 

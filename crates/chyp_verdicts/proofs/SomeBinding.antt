@@ -1,5 +1,6 @@
 -- Each statement that has its verdict binds, and what names stand for stays sound.
-use Rattle.std.proofs.Common.{◌≡◌, ℕ, zero, suc, ◌+◌, ◌-◌, ◌≤◌, Bool, true, false, ◌&&◌, if◌then◌else◌, List, [], ◌∷◌, length, replicate, Option, Some, None, slice_get, slice_index_or, ◌⊎◌, inl, inr, refl, sym, ◌∙◌, ap, subst, arith}
+use Rattle.std.proofs.Common.{◌≡◌, ℕ, zero, suc, ◌+◌, ◌-◌, ◌≤◌, Bool, true, false, ◌&&◌, if◌then◌else◌, List, [], ◌∷◌, length}
+use Rattle.std.proofs.Common.{map, replicate, Option, Some, None, slice_get, slice_index_or, ◌⊎◌, inl, inr, refl, sym, ◌∙◌, ap, subst, arith}
 use Rattle.std.proofs.lemmas.Bool.{false≢true}
 use Rattle.std.specs.List.{cons_option, filter_map}
 use Rattle.chyp_base.specs.Sort.{plain}
@@ -26,8 +27,10 @@ use Rattle.chyp_env.specs.Scope.{binding_at}
 use Rattle.chyp_env.specs.Site.{Imported, nothing, absent, on_cycle, there, Site}
 use Rattle.chyp_env.specs.Sound.{IsSound, IsSoundSense}
 use Rattle.chyp_names.specs.Binding.{IsRewrite, StandsFor, a_declared_generator, a_term, a_rule, a_proved_rewrite, an_unproved_rewrite, a_broken_statement}
-use Rattle.chyp_names.specs.Elaboration.{Passes, has_hole, steps_at, IsRefused, fault_of_module, import_fault, prefix_at, declared, at_import, at_name, too_big, mistyped, unproved as rests_on_unproved, expansion_at, generator_name, terms_of}
+use Rattle.chyp_names.specs.Elaboration.{Passes, has_hole, steps_at, IsRefused, fault_of_module, import_fault, prefix_at, declared}
+use Rattle.chyp_names.specs.Elaboration.{at_import, at_name, too_big, mistyped, unproved as rests_on_unproved, expansion_at, generator_name, terms_of}
 use Rattle.chyp_names.specs.Naming.{Use, in_term, in_reason, in_show, fault_of, fault_in_reason, fault_in_term, fault_or_unknown, uses_of}
+use Rattle.chyp_names.specs.Trees.{goals_of}
 use Rattle.chyp_names.specs.Typing.{AreTypedAlike}
 use Rattle.chyp_judge.specs.declared.judged.Judged.{Judged}
 use Rattle.chyp_judge.specs.declared.judged.Judged.TheVariants.{Differs, Good, NoRewrite, SimpDiffers, SimpLimit, TooWide}
@@ -92,7 +95,7 @@ first-kept f (x ∷ xs) v bad e = go (f x) refl e (first-kept f xs v bad)
     go (Some w) h i more = let same : w ≡ v = cc in bad x (h ∙ ap Some same)
 
 module-bad : (env : List Binding) (i : Imported) (prefix : Option (List ℕ)) (v : Verdict) → fault_of_module env i prefix ≡ Some v → is_refusal v ≡ true
-module-bad env nothing prefix v e = this _ v refl e
+module-bad env nothing prefix v e = absurd cc
 module-bad env absent prefix v e = this _ v refl e
 module-bad env on_cycle prefix v e = this _ v refl e
 module-bad env (there bindings) prefix v e = go (first_clash env (all_passed_on prefix bindings)) e
@@ -135,7 +138,7 @@ rewrite_or_not (t ∷ ts) = go (same_kind t.kind WordRewrite) refl
 
 -- the terms that the steps of a rewrite lead to
 abbrev pub goals_at : Site → List StepTree → List Morphism
-goals_at site steps = filter_map (λ step. option_map (expansion_at site.scope) step.goal) steps
+goals_at site steps = map (expansion_at site.scope) (goals_of steps)
 
 -- what a name stands for, and that it is sound
 pub record SomeSense (s : Site) (v : Verdict) : Type 0 where

@@ -2,11 +2,8 @@
 use Rattle.std.specs.Prelude.{◌≡◌, ℕ, ◌+◌, ◌<◌, List, [], All, Some, slice_get, ◌⊎◌}
 use Rattle.chyp_base.specs.declared.verdict.Verdict.{Verdict}
 use Rattle.chyp_base.specs.declared.verdict.Verdict.TheVariants.{Proved, Differs, NoRewrite, SimpDiffers, SimpLimit, TooWide}
-use Rattle.chyp_lex.specs.declared.token.Token.{Token}
-use Rattle.chyp_syntax.specs.declared.chunk.Chunk.{Chunk}
 use Rattle.chyp_syntax.specs.Sentence.{IsSentence}
 use Rattle.chyp_syntax.specs.Statement.{StatementTree}
-use Rattle.chyp_syntax.specs.Words.{Word}
 use Rattle.chyp_term.specs.Derivation.{Derives}
 use Rattle.chyp_term.specs.Morphism.{Morphism}
 use Rattle.chyp_term.specs.Rewriting.{RewritesInContext}
@@ -23,7 +20,6 @@ use Rattle.chyp_verdicts.specs.Judged.{moves_at}
 use Rattle.chyp_verdicts.specs.Rules.{IsRewriteOf, RestsOn}
 use Rattle.chyp_verdicts.specs.Standing.{Means, Origin, Standing}
 use Rattle.chyp_verdicts.specs.Steps.{AreGood}
-use Rattle.chyp_verdicts.specs.Texts.{AreVerdicts, Stands, statements_of}
 
 -- which statements stand before which others
 abbrev pub Order : Type 1
@@ -104,17 +100,3 @@ Explains Stands Before origin (TooWide step placements) =
 Explains Stands Before origin (SimpDiffers step) = HasComparison Stands origin step Different
 Explains Stands Before origin (SimpLimit step) = HasComparison Stands origin step AtLimit
 Explains Stands Before origin _ = Unit {0}
-
--- in one text a statement of a smaller number stands before another
-abbrev pub IsBefore : Order
-IsBefore one other = one.1 < other.1
-
--- what the verdicts say of these statements, one by one, is so
-abbrev pub AreExplained : List (List Word) → List Verdict → Type 0
-AreExplained statements verdicts = (number : ℕ) (verdict : Verdict) → slice_get verdicts number ≡ Some verdict
-    → Explains (Stands statements) IsBefore ([], number) verdict
-
--- what the verdicts of a text say is so
-abbrev pub VerdictsAreExplained : Type 0
-VerdictsAreExplained = (text : List ℕ) (tokens : List Token) (chunks : List Chunk) (verdicts : List Verdict)
-    → AreVerdicts text tokens chunks verdicts → AreExplained (statements_of text tokens chunks) verdicts

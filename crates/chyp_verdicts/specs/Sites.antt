@@ -1,5 +1,6 @@
 -- What holds of each statement, wherever it stands.
-use Rattle.std.specs.Prelude.{◌≡◌, ℕ, List}
+use Rattle.std.specs.Prelude.{◌≡◌, ◌≤◌, ℕ, List, length, Some}
+use Rattle.chyp_base.specs.Verdict.{token_of}
 use Rattle.chyp_base.specs.declared.verdict.Verdict.{Verdict}
 use Rattle.chyp_env.specs.Environment.{Binding}
 use Rattle.chyp_env.specs.Site.{Site, IsImportState}
@@ -27,3 +28,8 @@ pub record MakesOneEnvironment (site : Site) (number : ℕ) (verdict : Verdict) 
 abbrev pub EachStatementMakesOneEnvironment : Type 0
 EachStatementMakesOneEnvironment = (site : Site) (number : ℕ) (verdict : Verdict) → IsSound site.scope.env → IsImportState site
     → IsJudged site verdict → MakesOneEnvironment site number verdict
+
+-- a verdict that names a token names one of its statement, or the place behind the last one
+abbrev pub EachVerdictNamesAToken : Type 0
+EachVerdictNamesAToken = (site : Site) (verdict : Verdict) (token : ℕ) → IsJudged site verdict → token_of verdict ≡ Some token
+    → token ≤ length site.scope.words

@@ -1,17 +1,15 @@
-//! The verdicts of the statements of a text, as definitions and laws: law functions, whose bodies only
-//! call those of the crates below.
+//! The verdicts of statements, as definitions and laws: law functions, whose bodies only call those of the
+//! crates below.
 //!
-//! `specs/` says which verdict a statement gets where it stands (`Judged`), by the steps of a rewrite
-//! (`Steps`), and which the statements of a text get, one behind the other (`Texts`). Each statement has
-//! exactly one verdict (`Sites`), and each text exactly one list of verdicts. `Rules` says on which `rule` statements a statement rests, whether in
-//! one text or in the modules of a library; `Explained` what the verdicts say: a rewrite that is proved
-//! has a derivation from rules that stand before it, and a step that is refused has none of its kind.
+//! `specs/` says which verdict a statement gets where it stands (`Judged`), and by the steps of a rewrite
+//! (`Steps`). Each statement has exactly one, which names no token but its own (`Sites`). `Rules` says on
+//! which `rule` statements a statement rests, whichever stand where (`Standing`); `Explained` what the
+//! verdicts say: a rewrite that is proved has a derivation from rules that stand before it, and a step
+//! that is refused has none of its kind.
 #![tactic(auto)]
 
-ghost use Rattle.chyp_verdicts.specs.Explained.{VerdictsAreExplained};
 ghost use Rattle.chyp_verdicts.specs.Rules.{ProvedRewritesFollow};
-ghost use Rattle.chyp_verdicts.specs.Sites.{EachStatementHasOneVerdict, EachStatementMakesOneEnvironment};
-ghost use Rattle.chyp_verdicts.specs.Texts.{EachTextHasOneListOfVerdicts};
+ghost use Rattle.chyp_verdicts.specs.Sites.{EachStatementHasOneVerdict, EachStatementMakesOneEnvironment, EachVerdictNamesAToken};
 
 use chyp_laws::{graphs_decide_the_laws, rewrites_are_graphs};
 use chyp_lex::every_text_has_one_token_list;
@@ -38,15 +36,9 @@ pub fn each_statement_has_one_verdict()
     rewrites_are_graphs();
 }
 
-/// The statements of each text have exactly one list of verdicts. What these say is so: where a rewrite
-/// is proved, the equation of its first term and its last has a derivation from rules that stand before
-/// it, and where a step is refused, the laws don't derive its equation, no context rewrites its term to
-/// its goal, or there are too many placements. A proved rewrite follows from the equations that it
-/// cites, wherever it stands.
-pub fn each_text_has_one_list_of_verdicts()
-    ensures one { EachTextHasOneListOfVerdicts }
-    ensures explained { VerdictsAreExplained }
-    ensures follow { ProvedRewritesFollow }
+/// A rewrite that is proved, wherever it stands, follows from the equations that it cites.
+pub fn proved_rewrites_follow()
+    ensures { ProvedRewritesFollow }
 {
     every_text_has_one_token_list();
     each_text_has_one_list_of_chunks();
@@ -57,3 +49,9 @@ pub fn each_text_has_one_list_of_verdicts()
     graphs_decide_the_laws();
     rewrites_are_graphs();
 }
+
+/// A verdict that names a token names one of its statement, or the place behind the last one, where the
+/// end shows that it is no sentence.
+pub fn each_verdict_names_a_token()
+    ensures { EachVerdictNamesAToken }
+{}

@@ -1,6 +1,7 @@
 use Rattle.std.proofs.Common.{option_copied, ◌∙◌}
 use Rattle.chyp_env.specs.Entry.{sense_of}
-use Rattle.chyp_env.specs.ImportState.{imported_of}
+use Rattle.chyp_env.specs.ImportState.{imported_of, site_of}
+use Rattle.chyp_names.proofs.Closing.{accepted-takes, sense-fits}
 use Rattle.chyp_names.proofs.Made.{declared_spelled}
 use Rattle.chyp_names.proofs.Stands.{has_terms, sense_sound, sense_binds}
 use Rattle.chyp_names.proofs.binding.bind.Goals as goal
@@ -28,3 +29,14 @@ returns-clause-ok c =
     c.args.index (sense_of c.in_ok-meaning.meaning) c.keyword.result c.terms.result.now c.bind_name.new.env c.bind_name.result c.keyword.ensures c.terms.ensures
     (c.in_ok-meaning.ensures ∙ c.in_ok-terms.ensures.same c.keyword.result)
     c.in-Some-unbound.ensures.free c.bind_name.ensures.ok
+
+pub bind_import-requires-clause-import : goal.bind_import-requires-clause-import
+bind_import-requires-clause-import c =
+    accepted-takes (site_of (record { words = c.args.chunk.now; env = c.args.env.now }) c.args.module.now c.args.import.now) (option_copied c.args.body)
+    c.args.verdict.now c.in-Some.imported.now c.requires.state c.requires.outcome c.in-Some.ensures.accepted c.in-Some.ensures.there
+
+pub bind_name-requires-clause-closed : goal.bind_name-requires-clause-closed
+bind_name-requires-clause-closed c =
+    sense-fits c.args.module.now c.args.chunk.now c.args.env.now (imported_of c.args.import.now) (option_copied c.args.body)
+    c.args.verdict.now c.in-Some-unbound.name.now c.requires.outcome c.in-Some-unbound.ensures.name c.args.index
+    (sense_of c.in_ok-meaning.meaning) c.keyword.result c.terms.result.now c.keyword.ensures c.terms.ensures (c.in_ok-meaning.ensures ∙ c.in_ok-terms.ensures.same c.keyword.result) c.closed.ensures c.named.ensures

@@ -9,7 +9,7 @@ use Rattle.chyp_env.specs.Typing.{AllHold}
 use Rattle.chyp_names.specs.Agreement.{Agrees, Disagrees, StepsAgree, StepsDisagree}
 use Rattle.chyp_names.specs.Elaboration.{terms_in, tests_at}
 use Rattle.chyp_names.specs.Typing.{AreTypedAlike}
-use Rattle.chyp_names.proofs.Alike.{on_ok, rule_holds, rule_fails_left, rule_fails_right, rewrite_holds, rewrite_alike, rewrite_fails_first, rewrite_fails_behind}
+use Rattle.chyp_names.proofs.Alike.{let_holds, on_ok, rule_holds, rule_fails_left, rule_fails_right, rewrite_holds, rewrite_alike, rewrite_fails_first, rewrite_fails_behind}
 use Rattle.chyp_names.proofs.Made.{name_spelled, right_small, goals_small}
 use Rattle.chyp_names.proofs.terms.terms.Goals as goal
 
@@ -27,6 +27,10 @@ pub with_goals-requires : goal.with_goals-requires
 with_goals-requires c =
     goals_small [] c.args.scope.now c.args.ast.now c.in-RewriteDecl.name c.in-RewriteDecl.first c.in-RewriteDecl.steps c.in-RewriteDecl.is c.requires.small
     c.as_slice.result.now c.as_slice.ensures
+
+pub returns-in_ok-one-in-LetDecl-clause-hold : goal.returns-in_ok-one-in-LetDecl-clause-hold
+returns-in_ok-one-in-LetDecl-clause-hold c =
+    let_holds c.args.scope.now c.args.ast.now c.in-LetDecl.name c.in-LetDecl.term c.in-LetDecl.is (c.in_ok-term-in-LetDecl.ensures.holds refl)
 
 pub returns-in_err-first-in-RuleDecl-clause-fails : goal.returns-in_err-first-in-RuleDecl-clause-fails
 returns-in_err-first-in-RuleDecl-clause-fails c = λ token e.
