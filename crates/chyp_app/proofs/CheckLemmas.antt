@@ -1,5 +1,5 @@
 -- Answers of a check.
-use Rattle.std.proofs.Common.{◌≡◌, ℕ, ◌+◌, ◌<◌, ◌≤◌, List, [], ◌++◌, All, length, Option, Some, None, IfSome, Result, Ok, Err, OnErr, inr, refl, sym, ◌∙◌, ap, subst, arith, append-nil, length-append}
+use Rattle.std.proofs.Common.{◌≡◌, ℕ, ◌+◌, ◌<◌, ◌≤◌, List, [], All, length, Option, Some, None, IfSome, Result, Ok, Err, OnErr, inr, refl, sym, ◌∙◌, ap, subst, arith, append-nil, length-append}
 use Rattle.std.specs.Io.KnownBytes.{Consumes}
 use Rattle.std.proofs.lemmas.List.{length-map}
 use Rattle.std.proofs.lemmas.List.Elements.{All-weaker}
@@ -7,7 +7,7 @@ use Rattle.chyp_base.specs.Library.{Texts}
 use Rattle.chyp_base.specs.declared.status.Status.{Status}
 use Rattle.chyp_base.specs.declared.verdict.Verdict.{Verdict}
 use Rattle.chyp_lex.specs.declared.token.Token.{Token}
-use Rattle.chyp_lex.specs.Tokens.{AreTokens, AreSpans, HasOneTokenList, text_limit}
+use Rattle.chyp_lex.specs.Tokens.{AreTokens, HasOneTokenList, text_limit}
 use Rattle.chyp_syntax.specs.declared.chunk.Chunk.{Chunk}
 use Rattle.chyp_syntax.specs.Chunk.{AreChunks, HasOneListOfChunks}
 use Rattle.chyp_verdicts.specs.Texts.{statement_of}
@@ -54,10 +54,6 @@ pub use-three : {A B C : Type 0} (P : A → B → C → Type 0) (o : Option A) (
 use-three P o q r x y z e f g p = use-two (P x) q r y z f g (use-told (λ a. IfSome q (λ b. IfSome r (λ c. P a b c))) o x e p)
 
 -- ---- what was read
-
--- the tokens of a text lie in it
-pub text_spans : (text : List ℕ) (tokens : List Token) → AreSpans (length (text ++ [])) tokens → AreSpans (length text) tokens
-text_spans text tokens h = let P : List ℕ → Type 0 = λ t. AreSpans (length t) tokens in subst P (append-nil text) h
 
 -- what was given is no longer than what was left
 pub long_text : (left left_now : Option (List ℕ)) (given bytes : List ℕ) → Consumes left left_now given → left ≡ Some bytes → text_limit < length given → text_limit < length bytes

@@ -38,6 +38,6 @@ shown-utf8 text (keyword ∷ []) name h e = absurd cc
 shown-utf8 text (keyword ∷ token ∷ rest) name h e = go (is_some (keyword_of keyword.kind)) (is_name token.kind) refl e
   where
     go : (a b : Bool) → is_name token.kind ≡ b → (if a && b then Some (token_text text token) else None) ≡ Some name → IsUtf8 name
-    go true true is f = let same : token_text text token ≡ name = cc in subst IsUtf8 same (h 1 token (omega arith) is)
+    go true true is f = let same : token_text text token ≡ name = cc in subst IsUtf8 same (h 1 token (omega arith) is).0
     go true false is f = absurd cc
     go false b is f = absurd cc

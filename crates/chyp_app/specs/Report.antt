@@ -1,8 +1,7 @@
 -- What is written of a text and its verdicts.
-use Rattle.std.specs.Prelude.{ℕ, List, [], ◌∷◌, ◌++◌, Some, length, count_by}
+use Rattle.std.specs.Prelude.{ℕ, List, [], ◌∷◌, ◌++◌, Some, length, count_by, unwrap_or}
 use Rattle.chyp_base.specs.declared.verdict.Verdict.{Verdict}
-use Rattle.chyp_base.specs.declared.verdict.Verdict.TheVariants.{Syntax, Declared, NoModule, Cycle, Unknown, Broken, Kind, Mistyped, Unproved}
-use Rattle.chyp_base.specs.Verdict.{is_good}
+use Rattle.chyp_base.specs.Verdict.{is_good, token_of}
 use Rattle.chyp_lex.specs.declared.token.Token.{Token}
 use Rattle.chyp_syntax.specs.declared.chunk.Chunk.{Chunk}
 use Rattle.chyp_syntax.specs.Heading.{chunk_tokens, kind_text, shown_name, token_start}
@@ -11,24 +10,12 @@ use Rattle.chyp_session.specs.Line.{report_line}
 use Rattle.chyp_session.specs.Place.{place_of}
 use Rattle.chyp_session.specs.Reply.{reply_text}
 
--- the number of the token that a verdict names, 0 where it names none
-abbrev pub named_token : Verdict → ℕ
-named_token (Syntax token) = token
-named_token (Declared token) = token
-named_token (NoModule token) = token
-named_token (Cycle token) = token
-named_token (Unknown token) = token
-named_token (Broken token) = token
-named_token (Kind token) = token
-named_token (Mistyped token) = token
-named_token (Unproved token) = token
-named_token _ = 0
-
--- the line of a statement: where it begins, its keyword, its name, and its verdict with the place of the token that it names
+-- The line of a statement: where it begins, its keyword, its name, and its verdict with the place of the token that it names, or of the
+-- first token where it names none.
 abbrev pub line_of : List ℕ → List Token → Verdict → List ℕ
 line_of text statement verdict =
     report_line (place_of text (token_start statement 0)) (kind_text statement) (shown_name text statement) (Some verdict)
-    (place_of text (token_start statement (named_token verdict)))
+    (place_of text (token_start statement (unwrap_or (token_of verdict) 0)))
 
 -- the lines of some statements with their verdicts, in order
 abbrev pub lines_of : List ℕ → List Token → List Chunk → List Verdict → List ℕ

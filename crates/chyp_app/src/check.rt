@@ -10,11 +10,11 @@ ghost use Rattle.chyp_app.specs.Headline.{BeginsToCheck, Gives, IsEnded, IsReach
 
 use crate::report::{good_count, report};
 use chyp_base::{Library, NoMemory, Status, Steps, Verdict};
-use chyp_check::{Modules, check_all};
-use chyp_lex::{each_name_is_text, every_text_has_one_token_list, lex};
-use chyp_load::{LoadError, load};
+use chyp_check::{Modules, check_main};
+use chyp_lex::every_text_has_one_token_list;
+use chyp_load::{LoadError, MainText, load};
 use chyp_modules::modules_are_determined;
-use chyp_syntax::{chunks, each_text_has_one_list_of_chunks};
+use chyp_syntax::each_text_has_one_list_of_chunks;
 use std::alloc::Global;
 use std::sync::ledger::Ledger;
 
@@ -55,25 +55,23 @@ pub fn each_run_has_one_output()
 // Checks a text over its modules, which were read, and makes the report.
 fn check_over<G: Ledger>(
     alloc: Global,
-    text: &[u8],
+    main: &MainText<'_>,
     modules: &Modules,
     steps: &mut Steps<G>,
 ) -> Result<Checked, NoMemory>
-    requires short { length text.now ≤ text_limit }
     requires within { AreShort modules.now }
     ensures ended { IfOk result (λ checked. IsEnded checked.status) }
-    ensures report { IfOk result (λ checked. IsReport (library_of modules.now) text.now checked.report.items checked.status) }
-    ensures steps { (n : ℕ) → HasChecks (with_main (library_of modules.now) text.now) n → OnOk result (steps.new ≡ steps.old + n) }
+    ensures report { IfOk result (λ checked. IsReport (library_of modules.now) main.now.text checked.report.items checked.status) }
+    ensures steps { (n : ℕ) → HasChecks (with_main (library_of modules.now) main.now.text) n → OnOk result (steps.new ≡ steps.old + n) }
     ensures rises { steps.old ≤ steps.new }
-    ensures no_more { (n : ℕ) → HasChecks (with_main (library_of modules.now) text.now) n → OnErr result (steps.new ≤ steps.old + n) }
+    ensures no_more { (n : ℕ) → HasChecks (with_main (library_of modules.now) main.now.text) n → OnErr result (steps.new ≤ steps.old + n) }
 {
     every_text_has_one_token_list();
     each_text_has_one_list_of_chunks();
-    each_name_is_text();
-    let tokens = lex(alloc, text, b"")?;
-    let chunks = chunks(alloc, &tokens)?;
-    let verdicts = check_all(alloc, text, modules, steps)?;
-    let report = report(alloc, text, &tokens, &chunks, verdicts.as_slice())?;
+    let statements = main.statements();
+    statements.cut();
+    let verdicts = check_main(alloc, main, modules, steps)?;
+    let report = report(alloc, statements, verdicts.as_slice())?;
     let status = status_of(verdicts.as_slice());
     Ok(Checked { report, status })
 }
@@ -106,6 +104,7 @@ pub fn check_text<L: Library, G: Ledger>(
 {
     each_run_has_one_output();
     modules_are_determined();
-    let modules = Modules::new(load(alloc, library, text)?);
-    Ok(check_over(alloc, text, &modules, steps)?)
+    let main = MainText::new(alloc, text)?;
+    let modules = Modules::new(load(alloc, library, &main)?);
+    Ok(check_over(alloc, &main, &modules, steps)?)
 }

@@ -9,32 +9,15 @@ ghost use Rattle.chyp_syntax.specs.Heading.{chunk_tokens, shown_name, token_star
 ghost use Rattle.chyp_session.specs.Line.{report_line};
 ghost use Rattle.chyp_session.specs.Place.{place_of};
 ghost use Rattle.chyp_session.specs.Reply.{reply_text};
-ghost use Rattle.chyp_app.specs.Report.{named_token, line_of, lines_of, report_of};
+ghost use Rattle.chyp_app.specs.Report.{line_of, lines_of, report_of};
 
 use crate::page::Page;
 use chyp_base::{Failed, Name, NoMemory, Verdict};
 use chyp_lex::Token;
+use chyp_load::Statements;
 use chyp_session::{Line, Place, Reply, START, moved_on, write_line, write_reply};
 use chyp_syntax::{Chunk, chunk_tokens, kind_text, shown_name, token_start};
 use std::alloc::Global;
-
-// The token that a verdict names, 0 where it names none.
-fn named_token(verdict: &Verdict) -> u32
-    ensures { result ≡ named_token verdict.now }
-{
-    match verdict {
-        Verdict::Syntax { token }
-        | Verdict::Declared { token }
-        | Verdict::NoModule { token }
-        | Verdict::Cycle { token }
-        | Verdict::Unknown { token }
-        | Verdict::Broken { token }
-        | Verdict::Kind { token }
-        | Verdict::Mistyped { token }
-        | Verdict::Unproved { token } => *token,
-        _ => 0,
-    }
-}
 
 // The name that a statement shows.
 fn name_of(alloc: Global, text: &[u8], statement: &[Token]) -> Result<Option<Name>, NoMemory>
@@ -96,7 +79,7 @@ fn push_line(
 {
     let name = name_of(alloc, text, statement)?;
     let first = token_start(statement, 0);
-    let named = token_start(statement, named_token(verdict));
+    let named = token_start(statement, verdict.token().unwrap_or(0));
     let at = moved_on(text, &[], start, first, named);
     push_shown(
         page,
@@ -165,17 +148,17 @@ fn push_lines(
 /// `NoMemory` where the report can't be kept.
 pub fn report(
     alloc: Global,
-    text: &[u8],
-    tokens: &[Token],
-    chunks: &[Chunk],
+    statements: &Statements<'_>,
     verdicts: &[Verdict],
 ) -> Result<Vec<u8>, NoMemory>
-    requires spans { AreSpans (length text.now) tokens.now }
-    requires names { NamesAreText text.now tokens.now }
-    requires chunks { AreChunks tokens.now chunks.now }
-    requires count { length verdicts.now ≡ length chunks.now }
-    ensures { IfOk result (λ report. report.items ≡ report_of text.now tokens.now chunks.now verdicts.now) }
+    requires { length verdicts.now ≡ length statements.now.chunks }
+    ensures { IfOk result (λ report.
+        report.items ≡ report_of statements.now.text statements.now.tokens statements.now.chunks verdicts.now) }
 {
+    statements.cut();
+    let text = statements.text();
+    let tokens = statements.tokens();
+    let chunks = statements.chunks();
     let mut page = Page::new(alloc);
     push_lines(alloc, &mut page, text, tokens, chunks, verdicts)?;
     push_total(&mut page, verdicts)?;

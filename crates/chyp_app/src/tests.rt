@@ -136,7 +136,8 @@ const CASES: [Case; 35] = [
         status: Status::SomeNotGood,
         written: "1:1 gen f ok\n2:1 gen g ok\n3:1 gen h ok\n4:1 rule p ok\n5:1 rewrite c step 1 no-rewrite 0\ntotal 5 good 4\n",
     },
-    // The left side of the second step is a bare wire, at two places, of which the second leads to the goal.
+    // The left side of the second step is a bare wire, at two places, of which the second leads to
+    // the goal.
     Case {
         text: b"gen f : 1 -> 1\ngen m : 2 -> 1\ngen u : 0 -> 1\nrule unitL : u * id ; m = id\nrewrite a : u * u ; m = u by unitL\nrewrite b : f = u * f ; m by -unitL\n",
         status: Status::Done,
@@ -446,6 +447,38 @@ fn modules_past_the_limits_are_refused(rt: HostRuntime) -> Result<(), Fail> {
         );
         assert!(rt; sink.written().ends_with(total.as_bytes()), "{total}");
         assert_eq!(rt; sink.written().is_empty(), total.is_empty());
+    }
+    Ok(())
+}
+
+// A library of this many modules, of which each imports the one before, and a text that imports the last.
+fn modules_in_a_row(alloc: Global, count: usize) -> Result<(MemLibrary, String), Fail>
+    ensures { IfOk result (λ made. made.0.faults ≡ 0) }
+{
+    let mut modules = Vec::new(alloc);
+    let mut text = String::new(alloc);
+    for number in 0..count {
+        let name = format!(in alloc; "m{number}")?;
+        modules.push(module(alloc, name.as_str(), text.as_str())?)?;
+        text = format!(in alloc; "import m{number}")?;
+    }
+    Ok((MemLibrary::new(modules, Vec::new(alloc)), text))
+}
+
+#[test]
+fn modules_in_a_row_are_read(rt: HostRuntime) -> Result<(), Fail> {
+    let alloc = rt.alloc();
+    for (count, status, written) in [
+        (64, Status::Done, "1:1 import m63 ok\ntotal 1 good 1\n"),
+        (65, Status::TooLong, ""),
+    ] {
+        let (library, text) = modules_in_a_row(alloc, count)?;
+        let mut sink = MemSink::new(alloc, 100, 100, Vec::new(alloc))?;
+        assert_eq!(rt;
+            check_over(alloc, text.as_bytes(), library, &mut sink)?,
+            status
+        );
+        assert_eq!(rt; sink.written(), written.as_bytes());
     }
     Ok(())
 }

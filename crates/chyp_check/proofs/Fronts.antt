@@ -1,17 +1,14 @@
 -- The statements of one module, one by one.
 use Rattle.std.proofs.Common.{◌≡◌, ℕ, zero, suc, ◌+◌, ◌<◌, true, false, List, [], ◌∷◌, ◌++◌, length, Option, None, Some, slice_get, slice_index_or, refl, sym, ◌∙◌, ap, ap₂, subst, arith}
 use Rattle.std.specs.Prelude.{Err, IfOk, IsSome, Ok, Result}
-use Rattle.std.specs.Option.{option_map}
 use Rattle.std.proofs.lemmas.List.{length-map}
 use Rattle.std.proofs.lemmas.Bool.{false≢true}
 use Rattle.chyp_base.specs.declared.verdict.Verdict.{Verdict}
-use Rattle.chyp_lex.specs.Tokens.{AreTokens, HasOneTokenList}
+use Rattle.chyp_lex.specs.Tokens.{HasOneTokenList}
 use Rattle.chyp_lex.specs.declared.token.Token.{Token}
-use Rattle.chyp_syntax.proofs.Spans.{here, is_here}
 use Rattle.chyp_syntax.specs.Chunk.{AreChunks, HasOneListOfChunks}
 use Rattle.chyp_syntax.specs.declared.chunk.Chunk.{Chunk}
 use Rattle.chyp_syntax.specs.Words.{Word}
-use Rattle.chyp_term.proofs.Permuted.{get-map}
 use Rattle.chyp_verdicts.proofs.OneVerdict.{some-once}
 use Rattle.chyp_verdicts.specs.Texts.{statement_of, statements_of}
 use Rattle.chyp_modules.specs.Checking.{HaveStatements, of_more, of_none as none_more}
@@ -25,6 +22,7 @@ use Rattle.chyp_modules.specs.Import.{Imports, LeadsTo, Reaches, at_once}
 use Rattle.chyp_modules.specs.Library.{Library, AreStatements, IsModule}
 use Rattle.chyp_modules.specs.Laws.{OriginsDetermineSenses}
 use Rattle.chyp_modules.specs.Modules.{Makes, at_start, one_more, Stands, stands, Finds, no_import, of_none, of_circle, of_module, HasEnvironment, AreVerdicts, standing}
+use Rattle.chyp_load.specs.Statements.{CutText, IsCut}
 use Rattle.chyp_reach.specs.Relation.{relates}
 use Rattle.chyp_check.specs.Progress.{AreMade, Environments, IsNext}
 use Rattle.chyp_check.specs.Project.{IsMapped, Project, library_in, name_at, text_at}
@@ -113,18 +111,13 @@ if-next library home name words env next number imported (Err e) same finds judg
 
 -- ---- the statements of a text
 
-pub this-module : (project : Project) (number : ℕ) (tokens : List Token) (chunks : List Chunk) → IsMapped project → number < length project.nodes
-    → AreTokens (text_at project.nodes number) tokens → AreChunks tokens chunks
-    → IsModule (library_in project.nodes) (name_at project.nodes number) (text_at project.nodes number) (statements_of (text_at project.nodes number) tokens chunks)
-this-module project number tokens chunks mapped h t k = record {
-  there = library-at project.nodes mapped.distinct number h;
-  are = record { tokens = tokens; chunks = chunks; are_tokens = t; are_chunks = k; each = refl };
+-- what was read from the text of this number are the statements of its module
+pub this-cut : (project : Project) (number : ℕ) (cut : CutText) → IsMapped project → number < length project.nodes → cut.text ≡ text_at project.nodes number → IsCut cut
+    → IsModule (library_in project.nodes) (name_at project.nodes number) cut.text (statements_of cut.text cut.tokens cut.chunks)
+this-cut project number cut mapped h same is = record {
+  there = library-at project.nodes mapped.distinct number h ∙ ap Some (sym same);
+  are = record { tokens = cut.tokens; chunks = cut.chunks; are_tokens = is.tokens; are_chunks = is.chunks; each = refl };
 }
-
-pub statement-here : (text : List ℕ) (tokens : List Token) (chunks : List Chunk) (i : ℕ) (words : List Word) → i < length chunks → words ≡ statement_of text tokens (here chunks i)
-    → slice_get (statements_of text tokens chunks) i ≡ Some words
-statement-here text tokens chunks i words h s =
-    get-map (statement_of text tokens) chunks i ∙ ap (option_map (statement_of text tokens)) (is_here chunks i h) ∙ ap Some (sym s)
 
 pub leads-from : (library : Library) (name text : List ℕ) (ss : List (List Word)) (i : ℕ) (words : List Word) → IsModule library name text ss → slice_get ss i ≡ Some words
     → (other : List ℕ) → Imports words other → LeadsTo library name other

@@ -1,6 +1,5 @@
 pub mod StepLists
 pub mod Outcomes
-pub mod Texts
 pub mod Nodes
 pub mod Reached
 pub mod Fronts

@@ -8,7 +8,7 @@ use Rattle.chyp_modules.specs.Checking.{AreDistinct, HasChecks, HaveStatements, 
 use Rattle.chyp_modules.specs.Library.{Library, Module, library_of, with_main}
 use Rattle.chyp_modules.specs.Modules.{AreVerdicts}
 use Rattle.chyp_check.specs.Order.{HaveModules}
-use Rattle.chyp_check.specs.Project.{Node, library_in, name_at, node_of}
+use Rattle.chyp_check.specs.Project.{Node, library_in, name_at, node_of, text_at}
 use Rattle.chyp_check.proofs.Nodes.{nodes-agree}
 
 -- these are the nodes of a main text with modules
@@ -20,6 +20,9 @@ some-node nodes text modules e = subst (λ (ns : List Node). 0 < length ns) (sym
 
 pub main-first : (nodes : List Node) (text : List ℕ) (modules : List Module) → AreNodes nodes text modules → name_at nodes 0 ≡ []
 main-first nodes text modules e = ap (λ (ns : List Node). name_at ns 0) e
+
+pub main-text : (nodes : List Node) (text : List ℕ) (modules : List Module) → AreNodes nodes text modules → text_at nodes 0 ≡ text
+main-text nodes text modules e = ap (λ (ns : List Node). text_at ns 0) e
 
 agrees : (nodes : List Node) (text : List ℕ) (modules : List Module) → AreNodes nodes text modules → AreDistinct (names_of modules) → (name : List ℕ)
     → library_in nodes name ≡ with_main (library_of modules) text name

@@ -32,7 +32,7 @@ name_at nodes number = (node_at nodes number).0
 abbrev pub text_at : List Node → ℕ → List ℕ
 text_at nodes number = (node_at nodes number).1
 
--- Some texts of distinct names, none too long, with a row for each that says which of them it reaches.
+-- some texts with their names, and for each of them a row with a mark for each text
 pub record Project : Type 0 where
   pub nodes : List Node
   pub rows : List (List Bool)
@@ -50,6 +50,7 @@ HaveDistinctNames nodes = AreDistinct (map (λ (node : Node). node.0) nodes)
 abbrev pub HaveShortTexts : List Node → Type 0
 HaveShortTexts nodes = All (λ (node : Node). length node.1 ≤ text_limit) nodes
 
+-- the names are distinct, no text is too long, and the row of each text marks those that it reaches
 pub record IsMapped (project : Project) : Type 0 where
   pub distinct : HaveDistinctNames project.nodes
   pub short : HaveShortTexts project.nodes

@@ -11,9 +11,10 @@ ghost use Rattle.chyp_check.specs.Project.{library_in, name_at};
 
 use crate::order::order;
 use crate::project::Project;
-use crate::text::{Checked, check_text};
+use crate::text::{Checked, check_statements, check_text};
 use crate::{Modules, Verdicts};
 use chyp_base::{Name, NoMemory, Steps};
+use chyp_load::MainText;
 use chyp_names::Env;
 use std::alloc::Global;
 use std::mem::replace;
@@ -86,11 +87,39 @@ pub fn check_all<G: Ledger>(
     ensures rises { steps.old ≤ steps.new }
     ensures no_more { (n : ℕ) → HasChecks (with_main (library_of modules.now) text.now) n → OnErr result (steps.new ≤ steps.old + n) }
 {
+    let main = MainText::new(alloc, text)?;
+    check_main(alloc, &main, modules, steps)
+}
+
+/// What [`check_all`] gives, for a caller who has the statements of the text already.
+///
+/// # Errors
+///
+/// As for [`check_all`].
+pub fn check_main<G: Ledger>(
+    alloc: Global,
+    main: &MainText<'_>,
+    modules: &Modules,
+    steps: &mut Steps<G>,
+) -> Result<Verdicts, NoMemory>
+    requires within { AreShort modules.now }
+    ensures verdicts { IfOk result (λ verdicts. AreVerdicts (with_main (library_of modules.now) main.now.text) [] verdicts) }
+    ensures steps { (n : ℕ) → HasChecks (with_main (library_of modules.now) main.now.text) n → OnOk result (steps.new ≡ steps.old + n) }
+    ensures rises { steps.old ≤ steps.new }
+    ensures no_more { (n : ℕ) → HasChecks (with_main (library_of modules.now) main.now.text) n → OnErr result (steps.new ≤ steps.old + n) }
+{
     modules.distinct();
     let home = Name::new(alloc, "")?;
-    let project = Project::new(alloc, &home, text, modules)?;
+    let project = Project::new(alloc, &home, main, modules)?;
     let envs = check_modules(alloc, &project, steps)?;
-    let Checked { env, verdicts } = check_text(alloc, &project, 0, &envs, steps)?;
+    let Checked { env, verdicts } = check_statements(
+        alloc,
+        &project,
+        0,
+        &envs,
+        main.statements(),
+        steps,
+    )?;
     drop(env);
     drop(envs);
     drop(project);

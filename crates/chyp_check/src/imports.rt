@@ -2,11 +2,10 @@
 ghost use Rattle.std.specs.Prelude.{◌≡◌, ◌≢◌, ◌<◌, ◌↔◌, ℕ, Contains, true, false, IfOk, length};
 ghost use Rattle.chyp_load.specs.Imports.{IsImportedBy};
 ghost use Rattle.chyp_reach.specs.Relation.{relates};
-ghost use Rattle.chyp_check.specs.Project.{HaveDistinctNames, HaveShortTexts, Reflects, name_at, text_at};
+ghost use Rattle.chyp_check.specs.Project.{HaveDistinctNames, Reflects, name_at, text_at};
 
 use crate::node::{Node, place_of};
 use chyp_base::{Name, NoMemory};
-use chyp_load::imports_of;
 use chyp_reach::Relation;
 use std::alloc::Global;
 
@@ -29,8 +28,7 @@ fn add_imports(nodes: &[Node<'_>], from: usize, names: &[Name], relation: &mut R
 
 // Which nodes import which.
 fn imports(alloc: Global, nodes: &[Node<'_>]) -> Result<Relation, NoMemory>
-    requires distinct { HaveDistinctNames nodes.now }
-    requires short { HaveShortTexts nodes.now }
+    requires { HaveDistinctNames nodes.now }
     ensures many { IfOk result (λ relation. length relation ≡ length nodes.now) }
     ensures imports { IfOk result (λ relation. (i j : ℕ) → i < length nodes.now → j < length nodes.now →
         relates relation i j ≡ true ↔ IsImportedBy (text_at nodes.now i) (name_at nodes.now j)) }
@@ -38,16 +36,14 @@ fn imports(alloc: Global, nodes: &[Node<'_>]) -> Result<Relation, NoMemory>
     let mut relation = Relation::new(alloc, nodes.len())?;
     for from in 0..nodes.len() {
         let node = &nodes[from];
-        let names = imports_of(alloc, node.text)?;
-        add_imports(nodes, from, &names, &mut relation);
+        add_imports(nodes, from, node.imports(), &mut relation);
     }
     Ok(relation)
 }
 
 /// Which nodes reach which, by one import or more.
 pub(crate) fn reach(alloc: Global, nodes: &[Node<'_>]) -> Result<Relation, NoMemory>
-    requires distinct { HaveDistinctNames nodes.now }
-    requires short { HaveShortTexts nodes.now }
+    requires { HaveDistinctNames nodes.now }
     ensures many { IfOk result (λ relation. length relation ≡ length nodes.now) }
     ensures reflects { IfOk result (Reflects nodes.now) }
 {

@@ -10,6 +10,7 @@ use crate::Modules;
 use crate::imports::reach;
 use crate::node::{Node, nodes, place_of};
 use chyp_base::{Name, NoMemory};
+use chyp_load::MainText;
 use chyp_reach::Relation;
 use std::alloc::Global;
 use std::marker::Model;
@@ -37,16 +38,16 @@ impl<'a> Project<'a> {
     pub(crate) fn new(
         alloc: Global,
         home: &'a Name,
-        text: &'a [u8],
+        main: &'a MainText<'a>,
         modules: &'a Modules,
     ) -> Result<Project<'a>, NoMemory>
         requires home { home.now ≡ [] }
-        requires short { length text.now ≤ text_limit }
         requires within { AreShort modules.now }
-        ensures { IfOk result (λ project. project.nodes ≡ ([], text.now) ∷ filter_map node_of modules.now) }
+        ensures { IfOk result (λ project. project.nodes ≡ ([], main.now.text) ∷ filter_map node_of modules.now) }
     {
         modules.distinct();
-        let nodes = nodes(alloc, home, text, modules)?;
+        main.statements().cut();
+        let nodes = nodes(alloc, home, main, modules)?;
         let reach = reach(alloc, &nodes)?;
         Ok(Project { nodes, reach })
     }
@@ -72,8 +73,7 @@ impl<'a> Project<'a> {
         ensures text { result.now ≡ text_at self.now.nodes number }
         ensures short { length result.now ≤ text_limit }
     {
-        let node = &self.nodes[number];
-        node.text
+        self.nodes[number].text()
     }
 
     /// The number of the module of this name.

@@ -6,7 +6,7 @@ ghost use Rattle.chyp_lex.specs.Tokens.{AreSpans};
 use crate::*;
 use chyp_base::{MemLibrary, Name, Steps, Text, Verdict};
 use chyp_lex::{Token, each_name_is_text, lex};
-use chyp_load::load;
+use chyp_load::{MainText, load};
 use chyp_names::{ChunkView, Env, ImportState};
 use std::alloc::Global;
 use std::marker::Brand;
@@ -21,7 +21,7 @@ struct Case {
     verdicts: &'static str,
 }
 
-const CASES: [Case; 9] = [
+const CASES: [Case; 11] = [
     // No module at all.
     Case {
         text: b"gen f : 1 -> 1 gen g : 1 -> 1 rewrite x : f * g = g * f",
@@ -86,6 +86,18 @@ const CASES: [Case; 9] = [
         modules: &[("a", b"gen f : 1 -> 1"), ("b", b"gen f : 1 -> 1")],
         verdicts: "ax",
     },
+    // Names of two modules that are one behind a prefix alone.
+    Case {
+        text: b"import a as p import b as p",
+        modules: &[("a", b"gen f : 1 -> 1"), ("b", b"gen f : 1 -> 1")],
+        verdicts: "ax",
+    },
+    // A module that is not UTF-8: what it says behind the bad bytes counts.
+    Case {
+        text: b"import a rewrite x : f = f",
+        modules: &[("a", b"\xFF\xC3 gen f : 1 -> 1")],
+        verdicts: "ap",
+    },
 ];
 
 // A letter for each verdict of the table.
@@ -133,7 +145,8 @@ fn checked<G: Ledger>(
 {
     let mut steps = Steps::<G>::new(blank);
     let mut library = library(alloc, modules)?;
-    let modules = Modules::new(load(alloc, &mut library, text)?);
+    let main = MainText::new(alloc, text)?;
+    let modules = Modules::new(load(alloc, &mut library, &main)?);
     Ok(check_all(alloc, text, &modules, &mut steps)?)
 }
 

@@ -1,14 +1,10 @@
 // The verdicts of the statements of one text.
 ghost use Rattle.std.specs.Prelude.{◌≡◌, ◌≤◌, ◌<◌, ◌+◌, List, ℕ, [], ◌∷◌, length, IfOk, OnOk, OnErr};
-ghost use Rattle.chyp_lex.specs.Names.{NamesAreText};
-ghost use Rattle.chyp_lex.specs.Tokens.{AreSpans, AreTokens, text_limit};
-ghost use Rattle.chyp_syntax.specs.Chunk.{AreChunks};
 ghost use Rattle.chyp_env.specs.Import.{AgreeOnOrigins};
 ghost use Rattle.chyp_env.specs.ImportState.{imported_of, site_of};
 ghost use Rattle.chyp_env.specs.Site.{IsImportState};
 ghost use Rattle.chyp_names.specs.Binding.{Binds};
 ghost use Rattle.chyp_verdicts.specs.Judged.{IsJudged};
-ghost use Rattle.chyp_verdicts.specs.Texts.{statement_of};
 ghost use Rattle.chyp_modules.specs.Checking.{HaveStatements};
 ghost use Rattle.chyp_modules.specs.Import.{Imports, LeadsTo};
 ghost use Rattle.chyp_modules.specs.Modules.{AreVerdicts, HasEnvironment, Makes};
@@ -20,10 +16,11 @@ use crate::one::judge_statement;
 use crate::project::Project;
 use crate::{Inputs, Verdicts};
 use chyp_base::{Name, NoMemory, Steps, Verdict};
-use chyp_lex::{Token, each_name_is_text, every_text_has_one_token_list, lex};
+use chyp_lex::every_text_has_one_token_list;
+use chyp_load::Statements;
 use chyp_modules::modules_are_determined;
 use chyp_names::{ChunkView, Env, ImportState, bind_owned};
-use chyp_syntax::{Chunk, chunk_tokens, chunks, each_text_has_one_list_of_chunks};
+use chyp_syntax::each_text_has_one_list_of_chunks;
 use std::alloc::Global;
 use std::sync::ledger::Ledger;
 
@@ -62,17 +59,6 @@ pub(crate) fn judge_and_bind(
     Ok(outcome.verdict)
 }
 
-/// The statement that a chunk of a text is.
-pub(crate) fn statement<'a>(text: &'a [u8], tokens: &'a [Token], chunk: Chunk) -> ChunkView<'a>
-    requires short { length text.now ≤ text_limit }
-    requires spans { AreSpans (length text.now) tokens.now }
-    requires names { NamesAreText text.now tokens.now }
-    requires within { chunk.first + chunk.count ≤ length tokens.now }
-    ensures { result ≡ statement_of text.now tokens.now chunk }
-{
-    ChunkView::new(chunk_tokens(tokens, chunk), text, &[])
-}
-
 // The verdict of the next statement of the text of this number, whose name is then bound.
 fn check_next(
     alloc: Global,
@@ -95,7 +81,7 @@ fn check_next(
     modules_are_determined();
     let import = import_state(alloc, project, number, envs, chunk)?;
     let node = project.node(number);
-    judge_and_bind(alloc, node.name, chunk, index, env, &import)
+    judge_and_bind(alloc, node.name(), chunk, index, env, &import)
 }
 
 /// What the statements of a text make: the environment that its module passes on, and their verdicts.
@@ -105,36 +91,32 @@ pub(crate) struct Checked {
     pub(crate) verdicts: Verdicts,
 }
 
-// The same where the tokens and the chunks of the text are known.
-fn check_chunks<G: Ledger>(
+// The same from the statements that were read from the text, at one step each.
+fn check_each<G: Ledger>(
     alloc: Global,
     project: &Project<'_>,
     number: usize,
     envs: &[Option<Env>],
-    tokens: &[Token],
-    chunks: &[Chunk],
+    statements: &Statements<'_>,
     steps: &mut Steps<G>,
 ) -> Result<Checked, NoMemory>
     requires within { number < length project.now.nodes }
     requires made { AreMade project.now envs.now }
     requires ready { IsReady project.now envs.now number }
-    requires tokens { AreTokens (text_at project.now.nodes number) tokens.now }
-    requires spans { AreSpans (length (text_at project.now.nodes number)) tokens.now }
-    requires names { NamesAreText (text_at project.now.nodes number) tokens.now }
-    requires chunks { AreChunks tokens.now chunks.now }
+    requires text { statements.now.text ≡ text_at project.now.nodes number }
     ensures env { IfOk result (λ checked. HasEnvironment (library_in project.now.nodes) (name_at project.now.nodes number) checked.env) }
     ensures verdicts { IfOk result (λ checked. AreVerdicts (library_in project.now.nodes) (name_at project.now.nodes number) checked.verdicts) }
-    ensures steps { OnOk result (steps.new ≡ steps.old + length chunks.now) }
+    ensures steps { OnOk result (steps.new ≡ steps.old + length statements.now.chunks) }
     ensures rises { steps.old ≤ steps.new }
-    ensures no_more { OnErr result (steps.new ≤ steps.old + length chunks.now) }
+    ensures no_more { OnErr result (steps.new ≤ steps.old + length statements.now.chunks) }
 {
     project.mapped();
-    let text = project.text(number);
+    statements.cut();
     let mut env = Env::new(alloc);
-    let mut verdicts = Vec::with_capacity(alloc, chunks.len())?;
-    for (index, chunk) in chunks.iter().enumerate() {
+    let mut verdicts = Vec::with_capacity(alloc, statements.count())?;
+    for index in 0..statements.count() {
         steps.tick();
-        let view = statement(text, tokens, *chunk);
+        let view = statements.statement(index);
         let verdict = check_next(alloc, project, number, envs, &view, index as u32, &mut env)?;
         verdicts.push(verdict)?;
     }
@@ -145,6 +127,34 @@ fn check_chunks<G: Ledger>(
 /// The verdicts of the statements of the text of this number from the left, at one step each, where the
 /// environments of the modules that it reaches are there. Each name is bound once its statement has its
 /// verdict.
+pub(crate) fn check_statements<G: Ledger>(
+    alloc: Global,
+    project: &Project<'_>,
+    number: usize,
+    envs: &[Option<Env>],
+    statements: &Statements<'_>,
+    steps: &mut Steps<G>,
+) -> Result<Checked, NoMemory>
+    requires within { number < length project.now.nodes }
+    requires made { AreMade project.now envs.now }
+    requires ready { IsReady project.now envs.now number }
+    requires text { statements.now.text ≡ text_at project.now.nodes number }
+    ensures env { IfOk result (λ checked. HasEnvironment (library_in project.now.nodes) (name_at project.now.nodes number) checked.env) }
+    ensures verdicts { IfOk result (λ checked. AreVerdicts (library_in project.now.nodes) (name_at project.now.nodes number) checked.verdicts) }
+    ensures steps { (n : ℕ) → HaveStatements (library_in project.now.nodes) (name_at project.now.nodes number ∷ []) n
+        → OnOk result (steps.new ≡ steps.old + n) }
+    ensures rises { steps.old ≤ steps.new }
+    ensures no_more { (n : ℕ) → HaveStatements (library_in project.now.nodes) (name_at project.now.nodes number ∷ []) n
+        → OnErr result (steps.new ≤ steps.old + n) }
+{
+    every_text_has_one_token_list();
+    each_text_has_one_list_of_chunks();
+    project.mapped();
+    statements.cut();
+    check_each(alloc, project, number, envs, statements, steps)
+}
+
+/// The same for a text whose statements were not read yet.
 pub(crate) fn check_text<G: Ledger>(
     alloc: Global,
     project: &Project<'_>,
@@ -163,12 +173,6 @@ pub(crate) fn check_text<G: Ledger>(
     ensures no_more { (n : ℕ) → HaveStatements (library_in project.now.nodes) (name_at project.now.nodes number ∷ []) n
         → OnErr result (steps.new ≤ steps.old + n) }
 {
-    every_text_has_one_token_list();
-    each_text_has_one_list_of_chunks();
-    project.mapped();
-    each_name_is_text();
-    let text = project.text(number);
-    let tokens = lex(alloc, text, b"")?;
-    let chunks = chunks(alloc, &tokens)?;
-    check_chunks(alloc, project, number, envs, &tokens, &chunks, steps)
+    let statements = Statements::new(alloc, project.text(number))?;
+    check_statements(alloc, project, number, envs, &statements, steps)
 }

@@ -1,4 +1,4 @@
+mod Importing
 mod Lists
 mod Reading
-mod Statements
-mod Texts
+pub mod Texts

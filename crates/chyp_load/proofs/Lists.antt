@@ -1,6 +1,6 @@
 -- Lists of modules.
-use Rattle.std.proofs.Common.{◌≡◌, ℕ, ◌+◌, ◌<◌, ◌≤◌, Bool, true, false, cond, IsTrue, ◌↔◌, List, [], ◌∷◌, ◌++◌, length, take, Option, None, Some, IfSome, is_some, ◌⊎◌, inl, inr, refl, sym, ◌∙◌, ap, arith}
-use Rattle.std.specs.Prelude.{Contains}
+use Rattle.std.proofs.Common.{◌≡◌, ℕ, ◌+◌, ◌<◌, ◌≤◌, Bool, true, false, cond, IsTrue, ◌↔◌, List, [], ◌∷◌, ◌++◌, length, take, Option, None, Some, IfSome, is_some, ◌⊎◌, inl, inr, refl, sym, ◌∙◌, ap, subst, arith}
+use Rattle.std.specs.Prelude.{Contains, Err, Ok, OnOk, Result}
 use Rattle.std.specs.Map.{lookup}
 use Rattle.std.specs.Option.{option_map}
 use Rattle.std.specs.Str.{bytes_eq}
@@ -15,7 +15,7 @@ use Rattle.chyp_modules.specs.Library.{Module}
 use Rattle.chyp_base.specs.Library.{Answers, Texts, most_read}
 use Rattle.chyp_base.specs.declared.found.Found.TheVariants.{There}
 use Rattle.chyp_lex.specs.Tokens.{text_limit}
-use Rattle.chyp_load.specs.Loading.{IsLongModule, count_there, names_of, one_there}
+use Rattle.chyp_load.specs.Loading.{IsLongModule, IsOneMore, WantsMore, count_there, names_of, one_there}
 
 -- a name is found exactly where it stands in the list
 pub found : (modules : List Module) (name : List ℕ) (result : Bool) → result ≡ is_some (lookup (bytes_eq name) modules)
@@ -102,3 +102,20 @@ pub one-too-many : (told : Option Texts) (name : List ℕ) (modules : List Modul
 one-too-many None name modules text is few many = tt
 one-too-many (Some texts) name modules None is few many = absurd (omega arith)
 one-too-many (Some texts) name modules (Some whole) is few many = record { whole = whole; there = sym is; passes = inr (omega arith) }
+
+-- a module whose text was found is one more, with what it imports
+pub one-more : {T E : Type 0} (result : Result T E) (told : Option Texts) (name : List ℕ) (found text : Option (List ℕ)) (modules modules_now : List Module)
+    (wanted wanted_now : List (List ℕ)) → text ≡ found → IfSome found (λ bytes. length bytes ≤ text_limit) → IfSome told (λ texts. found ≡ texts name)
+    → WantsMore text wanted wanted_now → OnOk result (modules_now ≡ modules ++ (name, text) ∷ [])
+    → OnOk result (IsOneMore told name modules modules_now wanted wanted_now)
+one-more (Ok x) told name found text modules modules_now wanted wanted_now same short as_told m listed = record {
+  text = text;
+  imports = m.imports;
+  listed = listed;
+  behind = m.behind;
+  are = m.are;
+  few = m.few;
+  short = subst (λ (t : Option (List ℕ)). IfSome t (λ bytes. length bytes ≤ text_limit)) (sym same) short;
+  as_told = subst (λ (t : Option (List ℕ)). IfSome told (λ texts. t ≡ texts name)) (sym same) as_told;
+}
+one-more (Err e) told name found text modules modules_now wanted wanted_now same short as_told m listed = tt

@@ -1,13 +1,12 @@
 -- The imports of a text, statement by statement.
-use Rattle.std.proofs.Common.{◌≡◌, ℕ, zero, suc, ◌+◌, ◌<◌, ◌≤◌, List, [], ◌∷◌, ◌++◌, length, drop, slice_get, All, IsTrue, Option, None, Some, IfSome, IfNone, ◌⊎◌, inl, inr, refl, sym, ◌∙◌, ap, ap₂, subst, arith, append-nil}
+use Rattle.std.proofs.Common.{◌≡◌, ℕ, zero, suc, ◌+◌, ◌<◌, ◌≤◌, List, [], ◌∷◌, ◌++◌, length, drop, slice_get, All, IsTrue, Option, None, Some, IfSome, IfNone, ◌⊎◌, inl, inr, sym, ◌∙◌, ap, ap₂, subst, arith}
 use Rattle.std.specs.Prelude.{Contains}
 use Rattle.std.specs.Str.{IsUtf8}
-use Rattle.std.specs.Option.{option_map}
 use Rattle.std.proofs.lemmas.Bool.{cases_lt}
 use Rattle.std.proofs.lemmas.List.{length-append, length-map}
 use Rattle.std.proofs.lemmas.List.Elements.{All-contains, All-drop, All-nil, All-push, All-take, Contains-append_left, Contains-push}
-use Rattle.chyp_lex.specs.Names.{NamesAreText, is_name}
-use Rattle.chyp_lex.specs.Tokens.{AreTokens, AreSpans, HasOneTokenList, token_text}
+use Rattle.chyp_lex.specs.Names.{IsNameText, NamesAreText, is_name}
+use Rattle.chyp_lex.specs.Tokens.{AreSpans, HasOneTokenList, token_text}
 use Rattle.chyp_lex.specs.declared.token.Token.{Token}
 use Rattle.chyp_lex.specs.declared.token.TokenKind.TheVariants.{Ident}
 use Rattle.chyp_syntax.specs.Chunk.{AreChunks, HasOneListOfChunks, Tile}
@@ -17,8 +16,7 @@ use Rattle.chyp_syntax.specs.Failing.{HasOneTree}
 use Rattle.chyp_syntax.specs.Sentence.{IsSentence}
 use Rattle.chyp_syntax.specs.Statement.{inclusion}
 use Rattle.chyp_syntax.specs.Words.{Word, bytes_at}
-use Rattle.chyp_syntax.proofs.Spans.{here, is_here, spans_few}
-use Rattle.chyp_term.proofs.Permuted.{get-map}
+use Rattle.chyp_syntax.proofs.Spans.{spans_few}
 use Rattle.chyp_verdicts.specs.Texts.{statement_of, statements_of}
 use Rattle.chyp_verdicts.proofs.OneVerdict.{some-once}
 use Rattle.chyp_modules.specs.Import.{Imports, ImportsNothing}
@@ -32,11 +30,11 @@ tile_few start end (chunk ∷ chunks) h = let rest = tile_few (start + chunk.cou
 pub chunks_few : (size : ℕ) (tokens : List Token) (chunks : List Chunk) → AreSpans size tokens → AreChunks tokens chunks → length chunks ≤ size
 chunks_few size tokens chunks spans are = let few = spans_few 0 size tokens spans in let fewer = tile_few 0 (length tokens) chunks are.tile in omega arith
 
--- the identifiers of a statement are UTF-8
+-- the identifiers of a statement are UTF-8, and names by themselves
 pub spelled : (text : List ℕ) (tokens : List Token) (chunk : Chunk) → NamesAreText text tokens
-    → All (λ token. token.kind ≡ Ident → IsUtf8 (token_text text token)) (chunk_tokens tokens chunk)
+    → All (λ token. token.kind ≡ Ident → IsUtf8 (token_text text token) × IsNameText (token_text text token)) (chunk_tokens tokens chunk)
 spelled text tokens chunk names = λ k d h is.
-    let P : Token → Type 0 = λ token. IsTrue (is_name token.kind) → IsUtf8 (token_text text token) in
+    let P : Token → Type 0 = λ token. IsTrue (is_name token.kind) → IsUtf8 (token_text text token) × IsNameText (token_text text token) in
     All-take P chunk.count (drop chunk.first tokens) (All-drop P chunk.first tokens names) k d h (ap is_name is)
 
 -- where a list has an element, it is long enough
@@ -97,17 +95,6 @@ module _ (text : List ℕ) (statements : List (List Word)) (are : AreStatements 
       go k ws h e other i (inr last) =
           let same : name ≡ other = same-module words name other one imports (subst (λ w. Imports w other) (at-last k ws e last h) i) in
           subst (Contains (names ++ name ∷ [])) same (Contains-push names name)
-
--- the statements of a text, from the tokens that were read
-pub statements-read : (text : List ℕ) (tokens : List Token) (chunks : List Chunk) → AreTokens (text ++ []) tokens → AreChunks tokens chunks
-    → AreStatements text (statements_of text tokens chunks)
-statements-read text tokens chunks ts cs =
-    record { tokens = tokens; chunks = chunks; are_tokens = subst (λ t. AreTokens t tokens) (append-nil text) ts; are_chunks = cs; each = refl }
-
--- the statement that stands there
-pub statement-here : (text : List ℕ) (tokens : List Token) (chunks : List Chunk) (at : ℕ) → at < length chunks
-    → slice_get (statements_of text tokens chunks) at ≡ Some (statement_of text tokens (here chunks at))
-statement-here text tokens chunks at h = get-map (statement_of text tokens) chunks at ∙ ap (option_map (statement_of text tokens)) (is_here chunks at h)
 
 -- all imports of a text, once all its statements were looked at
 pub all-imports : ((text : List ℕ) → HasOneTokenList text) → ((tokens : List Token) → HasOneListOfChunks tokens) → (text : List ℕ) (tokens : List Token) (chunks : List Chunk)

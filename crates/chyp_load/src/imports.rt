@@ -1,22 +1,18 @@
 // The import statements of a text.
-ghost use Rattle.std.specs.Prelude.{◌≡◌, ◌↔◌, ◌≤◌, ◌+◌, length, IsTrue, Some, IfOk, IfSome, IfNone};
+ghost use Rattle.std.specs.Prelude.{◌≡◌, ◌↔◌, ◌≤◌, length, IsTrue, Some, IfOk, IfSome, IfNone};
 ghost use Rattle.std.specs.Str.{IsUtf8};
-ghost use Rattle.chyp_lex.specs.Names.{NamesAreText};
-ghost use Rattle.chyp_lex.specs.Tokens.{AreSpans, text_limit};
+ghost use Rattle.chyp_lex.specs.Tokens.{text_limit};
 ghost use Rattle.chyp_lex.specs.declared.token.TokenKind.{TokenKind};
 ghost use Rattle.chyp_syntax.specs.Statement.{statement_of as tree_of_ast};
 ghost use Rattle.chyp_syntax.specs.Words.{keyword_in};
-ghost use Rattle.chyp_verdicts.specs.Texts.{statement_of};
 ghost use Rattle.chyp_modules.specs.Import.{Imports, ImportsNothing};
 ghost use Rattle.chyp_load.specs.Imports.{AreImports, imported_word};
 
+use crate::Statements;
 use chyp_base::{Name, NoMemory};
 use chyp_env::ChunkView;
-use chyp_lex::{Token, TokenKind, each_name_is_text, every_text_has_one_token_list, lex};
-use chyp_syntax::{
-    Ast, Chunk, ParseError, chunk_tokens, chunks, each_sentence_has_one_tree,
-    each_text_has_one_list_of_chunks,
-};
+use chyp_lex::{TokenKind, every_text_has_one_token_list};
+use chyp_syntax::{Ast, ParseError, each_sentence_has_one_tree, each_text_has_one_list_of_chunks};
 use std::alloc::Global;
 
 // The number of the word that names the module of an import.
@@ -72,36 +68,22 @@ pub fn imported_name(alloc: Global, chunk: &ChunkView<'_>) -> Result<Option<Name
     Ok(Some(name_of(alloc, chunk.bytes_at(word))?))
 }
 
-// The statement that a chunk of a text is.
-fn statement<'a>(text: &'a [u8], tokens: &'a [Token], chunk: Chunk) -> ChunkView<'a>
-    requires short { length text.now ≤ text_limit }
-    requires spans { AreSpans (length text.now) tokens.now }
-    requires names { NamesAreText text.now tokens.now }
-    requires within { chunk.first + chunk.count ≤ length tokens.now }
-    ensures { result ≡ statement_of text.now tokens.now chunk }
-{
-    ChunkView::new(chunk_tokens(tokens, chunk), text, &[])
-}
-
 /// The names of the modules that the statements of a text import, in the order of the statements.
 ///
 /// # Errors
 ///
-/// `NoMemory` where its tokens, a tree or a name can't be kept.
-pub fn imports_of(alloc: Global, text: &[u8]) -> Result<Vec<Name>, NoMemory>
-    requires { length text.now ≤ text_limit }
-    ensures imports { IfOk result (λ names. AreImports text.now names.items) }
+/// `NoMemory` where a tree or a name can't be kept.
+pub fn imports_of(alloc: Global, statements: &Statements<'_>) -> Result<Vec<Name>, NoMemory>
+    ensures imports { IfOk result (λ names. AreImports statements.now.text names.items) }
     ensures few { IfOk result (λ names. length names.items ≤ text_limit) }
 {
     every_text_has_one_token_list();
     each_text_has_one_list_of_chunks();
     each_sentence_has_one_tree();
-    each_name_is_text();
-    let tokens = lex(alloc, text, b"")?;
-    let chunks = chunks(alloc, &tokens)?;
+    statements.cut();
     let mut names = Vec::new(alloc);
-    for chunk in &chunks {
-        let statement = statement(text, &tokens, *chunk);
+    for number in 0..statements.count() {
+        let statement = statements.statement(number);
         if let Some(name) = imported_name(alloc, &statement)? {
             names.push(name)?;
         }

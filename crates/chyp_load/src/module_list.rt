@@ -3,8 +3,8 @@ ghost use Rattle.std.specs.Prelude.{◌≡◌, ◌↔◌, ◌++◌, ◌∷◌, �
 ghost use Rattle.chyp_modules.specs.Checking.{AreDistinct, most_modules};
 ghost use Rattle.chyp_load.specs.Loading.{count_there, names_of, one_there};
 
-use crate::LoadError;
-use chyp_base::{Name, NoMemory, Text};
+use crate::{LoadError, ModuleText};
+use chyp_base::{Name, NoMemory};
 use indexmap::IndexMap;
 use std::alloc::Global;
 use std::marker::Model;
@@ -13,7 +13,7 @@ use std::marker::Model;
 /// no more than 64 are there.
 #[derive(Drop)]
 pub struct ModuleList {
-    modules: IndexMap<Name, Option<Text>>,
+    modules: IndexMap<Name, Option<ModuleText>>,
     there: usize,
 }
 
@@ -35,7 +35,7 @@ impl Model for ModuleList {
 pub const MAX_MODULES: usize = 64;
 
 // One for a text that is there, zero for none.
-fn one_there(text: &Option<Text>) -> usize
+fn one_there(text: &Option<ModuleText>) -> usize
     ensures { result ≡ one_there text.now }
 {
     match text {
@@ -68,7 +68,7 @@ impl ModuleList {
     ///
     /// `TooLong` exactly where it would be the 65th module that is there; `NoMemory` where it can't be
     /// kept.
-    pub fn push(&mut self, name: Name, text: Option<Text>) -> Result<(), LoadError>
+    pub fn push(&mut self, name: Name, text: Option<ModuleText>) -> Result<(), LoadError>
         requires fresh { ¬ Contains (names_of self.old) name }
         ensures ok { OnOk result (self.new ≡ self.old ++ (name, text) ∷ []) }
         ensures many { IsErrOf result LoadError.TooLong ↔ (most_modules < count_there self.old + one_there text) }
@@ -100,7 +100,7 @@ impl ModuleList {
     /// # Errors
     ///
     /// `NoMemory` where the list of them can't be kept.
-    pub fn into_vec(self) -> Result<Vec<(Name, Option<Text>)>, NoMemory>
+    pub fn into_vec(self) -> Result<Vec<(Name, Option<ModuleText>)>, NoMemory>
         ensures { IfOk result (λ modules. modules.items ≡ self) }
     {
         let alloc = *self.modules.allocator();

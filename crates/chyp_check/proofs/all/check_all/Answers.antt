@@ -1,40 +1,21 @@
-use Rattle.std.proofs.Common.{◌+◌, ◌≤◌, arith}
-use Rattle.chyp_check.proofs.Outcomes.{on_err}
-use Rattle.chyp_check.proofs.Wanted.{main-first, main-verdicts, parts, some-node}
+use Rattle.std.proofs.Common.{◌≡◌, ◌+◌, ◌≤◌, List, ℕ, [], subst}
+use Rattle.std.specs.Prelude.{IfOk, OnErr, OnOk}
+use Rattle.chyp_modules.specs.Checking.{HasChecks}
+use Rattle.chyp_modules.specs.Library.{library_of, with_main}
+use Rattle.chyp_modules.specs.Modules.{AreVerdicts}
 use Rattle.chyp_check.proofs.all.check_all.Goals as goal
-
-pub check_modules-requires-clause-some : goal.check_modules-requires-clause-some
-check_modules-requires-clause-some g c = some-node c.in_ok-project.project.nodes c.args.text.now c.args.modules.now c.in_ok-project.ensures
-
-pub check_modules-requires-clause-main : goal.check_modules-requires-clause-main
-check_modules-requires-clause-main g c = main-first c.in_ok-project.project.nodes c.args.text.now c.args.modules.now c.in_ok-project.ensures
-
-pub check_text-requires-clause-within : goal.check_text-requires-clause-within
-check_text-requires-clause-within g c = some-node c.in_ok-project.project.nodes c.args.text.now c.args.modules.now c.in_ok-project.ensures
 
 pub returns-clause-verdicts : goal.returns-clause-verdicts
 returns-clause-verdicts g c =
-    main-verdicts c.in_ok-project.project.nodes c.args.text.now c.args.modules.now c.in_ok-env.field-0.verdicts c.in_ok-project.ensures c.distinct.ensures c.in_ok-env.ensures.verdicts
+    subst (λ (text : List ℕ). IfOk c.check_main.result (λ verdicts. AreVerdicts (with_main (library_of c.args.modules.now) text) [] verdicts))
+    c.in_ok-main.ensures c.check_main.ensures.verdicts
 
 pub returns-clause-steps : goal.returns-clause-steps
-returns-clause-steps g c = λ n h.
-    let p = parts c.in_ok-project.project.nodes c.args.text.now c.args.modules.now n c.in_ok-project.ensures c.distinct.ensures h in
-    let a = c.in_ok-envs.ensures.steps p.wanted p.have in
-    let b = c.in_ok-env.ensures.steps p.own p.have_own in
-    let sum = p.sum in
-    omega arith
+returns-clause-steps g c =
+    subst (λ (text : List ℕ). (n : ℕ) → HasChecks (with_main (library_of c.args.modules.now) text) n
+    → OnOk c.check_main.result (c.check_main.new.steps ≡ c.args.steps.now + n)) c.in_ok-main.ensures c.check_main.ensures.steps
 
-pub returns-in_err-envs-clause-no_more : goal.returns-in_err-envs-clause-no_more
-returns-in_err-envs-clause-no_more g c = λ n h.
-    let p = parts c.in_ok-project.project.nodes c.args.text.now c.args.modules.now n c.in_ok-project.ensures c.distinct.ensures h in
-    let a = c.in_err-envs.ensures.no_more p.wanted p.have in
-    let sum = p.sum in
-    on_err c.from_residual-in_err-envs.result (c.check_modules.new.steps ≤ c.args.steps.now + n) (omega arith)
-
-pub returns-in_err-env-clause-no_more : goal.returns-in_err-env-clause-no_more
-returns-in_err-env-clause-no_more g c = λ n h.
-    let p = parts c.in_ok-project.project.nodes c.args.text.now c.args.modules.now n c.in_ok-project.ensures c.distinct.ensures h in
-    let a = c.in_ok-envs.ensures.steps p.wanted p.have in
-    let b = c.in_err-env.ensures.no_more p.own p.have_own in
-    let sum = p.sum in
-    on_err c.from_residual-in_err-env.result (c.check_text.new.steps ≤ c.args.steps.now + n) (omega arith)
+pub returns-clause-no_more : goal.returns-clause-no_more
+returns-clause-no_more g c =
+    subst (λ (text : List ℕ). (n : ℕ) → HasChecks (with_main (library_of c.args.modules.now) text) n
+    → OnErr c.check_main.result (c.check_main.new.steps ≤ c.args.steps.now + n)) c.in_ok-main.ensures c.check_main.ensures.no_more

@@ -70,8 +70,12 @@ loop-number-preserved g c =
     let at = get-number order place h in
     let envs : Environments = c.loop-number.envs.items in
     let now : Environments = c.place_env.new.envs in
-    let grown : now ≡ slice_set envs number (Some c.in_ok-env.field-0.env) = c.place_env.ensures ∙ ap (λ (xs : Environments). slice_set xs number (Some c.in_ok-env.field-0.env)) c.deref_mut.ensures.value in
-    let whole = written envs now c.loop-number.envs.len (let l = c.deref_mut.ensures.len in let v = ap length c.deref_mut.ensures.value in let s = ap length grown ∙ set-length envs number (Some c.in_ok-env.field-0.env) in omega arith) in
+    let grown : now ≡ slice_set envs number (Some c.in_ok-env.field-0.env) =
+    c.place_env.ensures ∙ ap (λ (xs : Environments). slice_set xs number (Some c.in_ok-env.field-0.env)) c.deref_mut.ensures.value in
+    let l = c.deref_mut.ensures.len in
+    let v = ap length c.deref_mut.ensures.value in
+    let s = ap length grown ∙ set-length envs number (Some c.in_ok-env.field-0.env) in
+    let whole = written envs now c.loop-number.envs.len (omega arith) in
     subst (λ (xs : Environments). IsGoing project order (place + 1) xs c.args.steps.now c.check_text.new.steps) (sym whole)
     (going-next project c.mapped.ensures order is place number h at envs now c.in_ok-env.field-0.env c.args.steps.now c.loop-number.steps c.check_text.new.steps c.loop-number.invariant grown
     c.in_ok-env.ensures.env c.in_ok-env.ensures.steps c.check_text.ensures.rises)

@@ -33,7 +33,9 @@ unreachable-requires c =
     let inside = c.in-Some-place_of.ensures.some in
     let here : place < length c.args.envs.now = omega arith in
     let none = any-default (Option (List Binding)) c.args.envs.now place None c.index-envs-place.result here ∙ sym c.index-envs-place.is ∙ c.in-None.is in
-    none-not-some _ none (c.requires.ready place (leads-reached p c.args.number place c.in-Some.name c.mapped.ensures c.requires.within inside c.in-Some-place_of.ensures.named (c.requires.leads c.in-Some.name i))
+    let leads = c.requires.leads c.in-Some.name i in
+    none-not-some _ none (c.requires.ready place
+    (leads-reached p c.args.number place c.in-Some.name c.mapped.ensures c.requires.within inside c.in-Some-place_of.ensures.named leads)
     (sym c.reaches.ensures ∙ c.if-reaches.false))
 
 pub returns : goal.returns

@@ -1,5 +1,4 @@
-use Rattle.std.proofs.Common.{sym, subst, ap, ◌∙◌, arith}
-use Rattle.chyp_load.specs.Imports.{AreImports}
+use Rattle.std.proofs.Common.{ap, arith}
 use Rattle.chyp_check.specs.Project.{Node}
 use Rattle.chyp_check.proofs.Reached.{at-place, rows-next}
 use Rattle.chyp_check.proofs.imports.imports.Goals as goal
@@ -14,11 +13,12 @@ pub loop-from-preserved : goal.loop-from-preserved
 loop-from-preserved c =
     let nodes = c.args.nodes.now in
     let from = c.loop-from.from in
+    let node : Node = c.index-nodes-from.result in
     record {
       many = c.add_imports.ensures.many;
-      first = rows-next nodes c.node.inside.text.now c.deref.result.now from c.loop-from.relation c.add_imports.new.relation
-          (ap (λ (n : Node). n.1) (at-place nodes c.index-nodes-from.result from c.loop-from-test.true c.index-nodes-from.is) ∙ ap (λ (n : Node). n.1) (sym c.node.view_is)) (subst (AreImports c.node.inside.text.now) (sym c.deref.ensures.value) c.in_ok-names.ensures.imports) c.add_imports.ensures.others c.add_imports.ensures.names
-          c.loop-from.invariant.first;
+      first = rows-next nodes node.1 c.imports.result.now from c.loop-from.relation c.add_imports.new.relation
+          (ap (λ (n : Node). n.1) (at-place nodes node from c.loop-from-test.true c.index-nodes-from.is))
+          c.imports.ensures c.add_imports.ensures.others c.add_imports.ensures.names c.loop-from.invariant.first;
     }
 
 pub returns-clause-imports : goal.returns-clause-imports

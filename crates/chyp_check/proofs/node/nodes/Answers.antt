@@ -9,7 +9,7 @@ loop-entry-preserved c =
     let here = c.loop-entry-test.true in
     let items = c.as_slice-entry-items.result.now in
     let entry = c.entry-item.result in
-    let main : Node = (c.args.home.now, c.args.text.now) in
+    let main : Node = (c.args.home.now, c.args.main.now.text) in
     elim c.match-node_of.branch [
       | in-Some+in_ok-push-2 w ↦
           let node = w.in-Some.node in

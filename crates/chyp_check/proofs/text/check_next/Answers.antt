@@ -7,7 +7,7 @@ use Rattle.chyp_check.proofs.text.check_next.Goals as goal
 
 pub judge_and_bind-requires-clause-state : goal.judge_and_bind-requires-clause-state
 judge_and_bind-requires-clause-state c =
-    import-state (library_in c.args.project.now.nodes) (site_of (record { words = c.args.chunk.now; env = c.args.env.now }) c.node.inside.name.now c.in_ok-import.import)
+    import-state (library_in c.args.project.now.nodes) (site_of (record { words = c.args.chunk.now; env = c.args.env.now }) c.name.result.now c.in_ok-import.import)
     c.in_ok-import.ensures
 
 pub judge_and_bind-requires-clause-origins : goal.judge_and_bind-requires-clause-origins
@@ -17,6 +17,6 @@ judge_and_bind-requires-clause-origins c =
 
 pub returns : goal.returns
 returns c =
-    if-next (library_in c.args.project.now.nodes) c.node.inside.name.now (name_at c.args.project.now.nodes c.args.number) c.args.chunk.now c.args.env.now c.judge_and_bind.new.env c.args.index
-    (imported_of c.in_ok-import.import) c.judge_and_bind.result (ap (λ (n : Node). n.0) (c.node.view_is ∙ c.node-node.ensures)) c.in_ok-import.ensures
+    if-next (library_in c.args.project.now.nodes) c.name.result.now (name_at c.args.project.now.nodes c.args.number) c.args.chunk.now c.args.env.now c.judge_and_bind.new.env c.args.index
+    (imported_of c.in_ok-import.import) c.judge_and_bind.result (c.name.ensures ∙ ap (λ (n : Node). n.0) c.node-node.ensures) c.in_ok-import.ensures
     c.judge_and_bind.ensures.judged c.judge_and_bind.ensures.binds

@@ -1,7 +1,7 @@
 use Rattle.std.proofs.Common.{sym, subst}
 use Rattle.std.specs.Str.{IsUtf8}
 use Rattle.chyp_syntax.specs.Statement.{statement_of}
-use Rattle.chyp_load.proofs.Statements.{module_spelled, other_keyword}
+use Rattle.chyp_load.proofs.Importing.{module_spelled, other_keyword}
 use Rattle.chyp_load.proofs.imports.imported_name.Goals as goal
 
 -- src/imports.rt:60:9

@@ -1,9 +1,12 @@
-use Rattle.std.proofs.Common.{rules, ◌≡◌, ◌≤◌, List, ℕ, sym, ◌∙◌, subst, arith}
+use Rattle.std.proofs.Common.{rules, ◌≡◌, ◌≤◌, List, ℕ, length, sym, ◌∙◌, subst, arith}
 use Rattle.std.proofs.lemmas.Result.{err_from_is_err_and}
 use Rattle.std.specs.Prelude.{Contains}
+use Rattle.chyp_lex.specs.Tokens.{text_limit}
 use Rattle.chyp_modules.specs.Checking.{AreDistinct, most_modules}
 use Rattle.chyp_modules.specs.Library.{Module}
+use Rattle.chyp_load.specs.Imports.{AreImports}
 use Rattle.chyp_load.specs.Loading.{AreRead, AreShort, ListsAll, CausedBy, LoadHasCause, count_there, names_of}
+use Rattle.chyp_load.specs.Statements.{CutText}
 use Rattle.chyp_load.proofs.Reading.{IsUnderway, done, fewer, underway-fits, underway-long, underway-more, underway-read, underway-skip, underway-some, underway-start, at-place}
 use Rattle.chyp_load.proofs.loading.load.Goals as goal
 
@@ -11,8 +14,9 @@ pub loop-next-init : goal.loop-next-init
 loop-next-init g c =
     let told = g.L.Library.texts c.args.library.now in
     let faults = g.L.Library.faults c.args.library.now in
-    subst (λ (ms : List Module). IsUnderway told told faults faults c.args.text.now ms c.in_ok-wanted.wanted.items 0) (sym c.new-modules.ensures)
-    (underway-start told faults c.args.text.now c.in_ok-wanted.wanted.items c.in_ok-wanted.ensures.imports)
+    subst (λ (ms : List Module). IsUnderway told told faults faults c.args.main.now.text ms c.in_ok-wanted.wanted.items 0) (sym c.new-modules.ensures)
+    (underway-start told faults c.args.main.now.text c.in_ok-wanted.wanted.items
+    (subst (AreImports c.args.main.now.text) (sym c.in_ok-wanted.ensures) c.imports.ensures.imports))
 
 pub returns-in_err-name-clause-same : goal.returns-in_err-name-clause-same
 returns-in_err-name-clause-same g c = c.loop-next.invariant.same
@@ -37,7 +41,7 @@ loop-next-smaller-in_ok-load_module g c =
     let inside = c.modules-then-not-contains in
     let few : count_there c.load_module.new.modules ≤ most_modules =
     subst (λ (ms : List Module). count_there ms ≤ most_modules) inside.view_is (omega (arith, inside.invariant.1, inside.invariant.2)) in
-    fewer told told_now faults faults_now c.args.text.now modules wanted next name c.loop-next.invariant at
+    fewer told told_now faults faults_now c.args.main.now.text modules wanted next name c.loop-next.invariant at
     c.load_module.new.modules c.load_module.new.wanted.items c.in_ok-load_module.ensures.more few
 
 pub loop-next-preserved-in_ok-load_module : goal.loop-next-preserved-in_ok-load_module
@@ -52,7 +56,7 @@ loop-next-preserved-in_ok-load_module g c =
     let name : List ℕ = c.in_ok-name.name in
     let at = at-place wanted next name c.index.result.now (let t = c.loop-next-test.true in omega (arith, c.len.ensures)) c.index.ensures c.in_ok-name.ensures in
     let after = c.in_ok-load_module.ensures in
-    underway-more told told_now faults faults_now c.args.text.now modules wanted next name c.loop-next.invariant at
+    underway-more told told_now faults faults_now c.args.main.now.text modules wanted next name c.loop-next.invariant at
     (g.L.Library.texts c.load_module.new.library) (g.L.Library.faults c.load_module.new.library) c.load_module.new.modules c.load_module.new.wanted.items after.same after.cause after.more
 
 pub returns-in_err-load_module-clause-same : goal.returns-in_err-load_module-clause-same
@@ -73,7 +77,9 @@ returns-in_err-load_module-clause-long g c is =
     let inside = c.modules-in-loop-next in
     let distinct = subst (λ (ms : List Module). AreDistinct (names_of ms)) inside.view_is inside.invariant.0 in
     let fresh : ¬ Contains (names_of modules) name = λ h. let y = c.contains.ensures.1 h in let f = c.if-not-contains.true in cc in
-    underway-long told told_now faults faults_now c.args.text.now modules wanted next name c.loop-next.invariant at c.requires.short fresh distinct (c.in_err-load_module.ensures.long cc)
+    let short = subst (λ (cut : CutText). length cut.text ≤ text_limit) c.statements.ensures c.cut.ensures.short in
+    underway-long told told_now faults faults_now c.args.main.now.text modules wanted next name c.loop-next.invariant at short fresh distinct
+    (c.in_err-load_module.ensures.long cc)
 
 pub returns-in_err-load_module-clause-wanted : goal.returns-in_err-load_module-clause-wanted
 returns-in_err-load_module-clause-wanted g c is =
@@ -86,7 +92,7 @@ returns-in_err-load_module-clause-wanted g c is =
     let next = c.loop-next.next in
     let name : List ℕ = c.in_ok-name.name in
     let at = at-place wanted next name c.index.result.now (let t = c.loop-next-test.true in omega (arith, c.len.ensures)) c.index.ensures c.in_ok-name.ensures in
-    underway-some told told_now faults faults_now c.args.text.now modules wanted next name c.loop-next.invariant at
+    underway-some told told_now faults faults_now c.args.main.now.text modules wanted next name c.loop-next.invariant at
 
 pub returns-in_err-load_module-clause-cause : goal.returns-in_err-load_module-clause-cause
 returns-in_err-load_module-clause-cause g c =
@@ -112,7 +118,7 @@ loop-next-preserved g c =
     let name : List ℕ = c.in_ok-name.name in
     let at = at-place wanted next name c.index.result.now (let t = c.loop-next-test.true in omega (arith, c.len.ensures)) c.index.ensures c.in_ok-name.ensures in
     let has : Contains (names_of modules) name = c.contains.ensures.0 (let f = c.if-not-contains.false in cc) in
-    underway-skip told told_now faults faults_now c.args.text.now modules wanted next name c.loop-next.invariant at has
+    underway-skip told told_now faults faults_now c.args.main.now.text modules wanted next name c.loop-next.invariant at has
 
 pub returns-in_err-into_vec-clause-same : goal.returns-in_err-into_vec-clause-same
 returns-in_err-into_vec-clause-same g c = c.loop-next.invariant.same
@@ -131,20 +137,21 @@ returns-clause-within g c = subst AreShort (sym c.in_ok-into_vec.ensures) c.loop
 
 pub returns-clause-whole : goal.returns-clause-whole
 returns-clause-whole g c =
-    subst (ListsAll c.args.text.now) (sym c.in_ok-into_vec.ensures)
-    (done c.args.text.now c.loop-next.modules c.loop-next.wanted.items c.loop-next.next c.loop-next.invariant.loaded (let t = c.loop-next-test.false in omega (arith, c.len.ensures)))
+    subst (ListsAll c.args.main.now.text) (sym c.in_ok-into_vec.ensures)
+    (done c.args.main.now.text c.loop-next.modules c.loop-next.wanted.items c.loop-next.next c.loop-next.invariant.loaded (let t = c.loop-next-test.false in omega (arith, c.len.ensures)))
 
 pub returns-clause-read : goal.returns-clause-read
 returns-clause-read g c =
-    subst (AreRead (g.L.Library.texts c.args.library.now) c.args.text.now) (sym c.in_ok-into_vec.ensures)
-    (underway-read (g.L.Library.texts c.args.library.now) c.args.text.now c.loop-next.modules c.loop-next.wanted.items c.loop-next.invariant.reading)
+    subst (AreRead (g.L.Library.texts c.args.library.now) c.args.main.now.text) (sym c.in_ok-into_vec.ensures)
+    (underway-read (g.L.Library.texts c.args.library.now) c.args.main.now.text c.loop-next.modules c.loop-next.wanted.items c.loop-next.invariant.reading)
 
 pub returns-clause-fits : goal.returns-clause-fits
 returns-clause-fits g c =
     let told = g.L.Library.texts c.args.library.now in
     let modules : List Module = c.loop-next.modules in
     let u = c.loop-next.invariant in
-    let listed : ListsAll c.args.text.now modules =
-    done c.args.text.now modules c.loop-next.wanted.items c.loop-next.next u.loaded (let t = c.loop-next-test.false in omega (arith, c.len.ensures)) in
-    let read = underway-read told c.args.text.now modules c.loop-next.wanted.items u.reading in
-    underway-fits told c.args.text.now modules c.requires.short read listed u.loaded.short c.sound.ensures.few
+    let listed : ListsAll c.args.main.now.text modules =
+    done c.args.main.now.text modules c.loop-next.wanted.items c.loop-next.next u.loaded (let t = c.loop-next-test.false in omega (arith, c.len.ensures)) in
+    let read = underway-read told c.args.main.now.text modules c.loop-next.wanted.items u.reading in
+    let short = subst (λ (cut : CutText). length cut.text ≤ text_limit) c.statements.ensures c.cut.ensures.short in
+    underway-fits told c.args.main.now.text modules short read listed u.loaded.short c.sound.ensures.few

@@ -1,7 +1,7 @@
 use Rattle.std.proofs.Common.{◌≡◌, ◌+◌}
 use Rattle.chyp_check.specs.Project.{library_in, name_at}
 use Rattle.chyp_check.proofs.Fronts.{IsFront}
-use Rattle.chyp_check.proofs.text.check_chunks.Given as goal
+use Rattle.chyp_check.proofs.text.check_each.Given as goal
 
 abbrev pub invariant-loop-index : goal.invariant-loop-index
 invariant-loop-index g l = record {
