@@ -1,0 +1,4 @@
+pub mod Apart
+pub mod Listings
+pub mod Rows
+pub mod Stores

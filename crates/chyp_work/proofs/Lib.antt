@@ -1,0 +1,9 @@
+pub mod Boards
+pub mod Bridge
+pub mod Fillings
+pub mod Items
+pub mod Moving
+pub mod Nets
+pub mod Places
+pub mod Rerouting
+pub mod Taking

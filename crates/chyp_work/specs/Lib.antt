@@ -1,0 +1,4 @@
+pub mod Board
+pub mod Net
+pub mod Replacement
+pub mod Rerouting

@@ -1,0 +1,205 @@
+// Graphs that are rewritten in place.
+ghost use Rattle.std.specs.Prelude.{◌≡◌, ◌<◌, ◌↔◌, All, Contains, IfSome, IsNone, Some, []};
+ghost use Rattle.chyp_graph.specs.Graph.{lent_edge};
+ghost use Rattle.chyp_match.specs.View.{IsIn, IsSeen, named_in, net_of, sorted_in, source_in, target_in};
+ghost use Rattle.chyp_store.specs.Items.{item_at};
+ghost use Rattle.chyp_work.specs.Net.{IsSound, seen_of};
+
+use crate::board::Board;
+use crate::end::End;
+use chyp_base::{Name, Sort};
+use chyp_graph::{EdgeId, EdgeView, WireId};
+use chyp_match::View;
+use chyp_store::{Lists, Store};
+use std::alloc::Global;
+use std::marker::Model;
+
+/// A graph that is rewritten in place, always valid: contracts see it by the numbers of its edges and
+/// wires.
+#[derive(Drop)]
+pub struct Work {
+    board: Board,
+}
+
+impl Model for Work {
+    ghost use Rattle.chyp_match.specs.View.{Net};
+
+    ghost Value = { Net };
+
+    ghost use Rattle.chyp_work.specs.Board.{IsWork, net};
+
+    ghost view = { λ w. net w.board };
+
+    ghost invariant = { λ w. IsWork w.board };
+}
+
+impl Work {
+    /// The empty graph. It takes no memory.
+    pub fn empty(alloc: Global) -> Work
+        ensures { result ≡ record { edges = []; wires = []; inputs = []; outputs = [] } }
+    {
+        Work {
+            board: Board {
+                edges: Store::new(alloc),
+                wires: Store::new(alloc),
+                inputs: Vec::new(alloc),
+                outputs: Vec::new(alloc),
+                named: Lists::new(alloc),
+                sorted: Lists::new(alloc),
+            },
+        }
+    }
+
+    /// Every such graph is valid.
+    pub(crate) fn sound(&self)
+        ensures sound { IsSound self.now }
+        ensures shown { net_of (seen_of self.now) ≡ self.now }
+        ensures seen { IsSeen (seen_of self.now) }
+    {
+        let _ = &self.board;
+    }
+
+    /// The edge of this number.
+    pub(crate) fn edge_at(&self, k: EdgeId) -> EdgeView<'_>
+        requires { IsIn k self.now.edges }
+        ensures { item_at k self.now.edges ≡ Some (lent_edge result) }
+    {
+        let item = self.board.edges.get(k.0).unwrap();
+        EdgeView {
+            name: &item.name,
+            sources: item.sources.as_slice(),
+            targets: item.targets.as_slice(),
+        }
+    }
+
+    /// The sort of the wire of this number.
+    pub(crate) fn sort_at(&self, w: WireId) -> &Sort
+        requires { IsIn w self.now.wires }
+        ensures { item_at w self.now.wires ≡ Some result.now }
+    {
+        let item = self.board.wires.get(w.0).unwrap();
+        &item.sort
+    }
+
+    /// The edge that makes the wire.
+    pub(crate) fn producer_at(&self, w: WireId) -> Option<(EdgeId, u32)>
+        requires { IsIn w self.now.wires }
+        ensures port { IfSome result (λ port. target_in self.now port.0 port.1 ≡ Some w) }
+        ensures input { IsNone result ↔ Contains self.now.inputs w }
+    {
+        let item = self.board.wires.get(w.0).unwrap();
+        match item.producer {
+            End::Outside(_) => None,
+            End::Port(k, i) => Some((k, i)),
+        }
+    }
+
+    /// The edge that consumes the wire.
+    pub(crate) fn consumer_at(&self, w: WireId) -> Option<(EdgeId, u32)>
+        requires { IsIn w self.now.wires }
+        ensures port { IfSome result (λ port. source_in self.now port.0 port.1 ≡ Some w) }
+        ensures output { IsNone result ↔ Contains self.now.outputs w }
+    {
+        let item = self.board.wires.get(w.0).unwrap();
+        match item.consumer {
+            End::Outside(_) => None,
+            End::Port(k, i) => Some((k, i)),
+        }
+    }
+
+    /// The edges of this name, in order.
+    pub(crate) fn named_at(&self, name: &Name) -> &[EdgeId]
+        ensures { result.now ≡ named_in self.now name.now }
+    {
+        self.board.named.get(name)
+    }
+
+    /// The wires of this sort, in order.
+    pub(crate) fn wires_at(&self, sort: &Sort) -> &[WireId]
+        ensures { result.now ≡ sorted_in self.now sort.now.name }
+    {
+        self.board.sorted.get(&sort.name)
+    }
+
+    /// The inputs, in order.
+    pub(crate) fn inputs_at(&self) -> &[WireId]
+        ensures { result.now ≡ self.now.inputs }
+    {
+        &self.board.inputs
+    }
+
+    /// The outputs, in order.
+    pub(crate) fn outputs_at(&self) -> &[WireId]
+        ensures { result.now ≡ self.now.outputs }
+    {
+        &self.board.outputs
+    }
+
+    /// A number that is above those of all edges.
+    pub(crate) fn edges_below(&self) -> u32
+        ensures { All (λ e. e.0 < result) self.now.edges }
+    {
+        self.board.edges.bound()
+    }
+
+    /// A number that is above those of all wires.
+    pub(crate) fn wires_below(&self) -> u32
+        ensures { All (λ e. e.0 < result) self.now.wires }
+    {
+        self.board.wires.bound()
+    }
+}
+
+impl View for Work {
+    ghost seen = { seen_of };
+
+    fn edge(&self, k: EdgeId) -> EdgeView<'_> {
+        self.sound();
+        self.edge_at(k)
+    }
+
+    fn wire_sort(&self, w: WireId) -> &Sort {
+        self.sound();
+        self.sort_at(w)
+    }
+
+    fn producer(&self, w: WireId) -> Option<(EdgeId, u32)> {
+        self.sound();
+        self.producer_at(w)
+    }
+
+    fn consumer(&self, w: WireId) -> Option<(EdgeId, u32)> {
+        self.sound();
+        self.consumer_at(w)
+    }
+
+    fn inputs(&self) -> &[WireId] {
+        self.sound();
+        self.inputs_at()
+    }
+
+    fn outputs(&self) -> &[WireId] {
+        self.sound();
+        self.outputs_at()
+    }
+
+    fn named(&self, name: &Name) -> &[EdgeId] {
+        self.sound();
+        self.named_at(name)
+    }
+
+    fn wires_of(&self, sort: &Sort) -> &[WireId] {
+        self.sound();
+        self.wires_at(sort)
+    }
+
+    fn edge_bound(&self) -> u32 {
+        self.sound();
+        self.edges_below()
+    }
+
+    fn wire_bound(&self) -> u32 {
+        self.sound();
+        self.wires_below()
+    }
+}
