@@ -10,9 +10,9 @@ ghost use Rattle.chyp_app.specs.Headline.{BeginsToCheck, Gives, IsEnded, IsReach
 
 use crate::report::{good_count, report};
 use chyp_base::{Library, NoMemory, Status, Steps, Verdict};
-use chyp_check::{Modules, check_main};
+use chyp_check::check_main;
 use chyp_lex::every_text_has_one_token_list;
-use chyp_load::{LoadError, MainText, load};
+use chyp_load::{LoadError, MainText, ReadModules, load};
 use chyp_modules::modules_are_determined;
 use chyp_syntax::each_text_has_one_list_of_chunks;
 use std::alloc::Global;
@@ -56,7 +56,7 @@ pub fn each_run_has_one_output()
 fn check_over<G: Ledger>(
     alloc: Global,
     main: &MainText<'_>,
-    modules: &Modules,
+    modules: &ReadModules,
     steps: &mut Steps<G>,
 ) -> Result<Checked, NoMemory>
     requires within { AreShort modules.now }
@@ -105,6 +105,6 @@ pub fn check_text<L: Library, G: Ledger>(
     each_run_has_one_output();
     modules_are_determined();
     let main = MainText::new(alloc, text)?;
-    let modules = Modules::new(load(alloc, library, &main)?);
+    let modules = ReadModules::new(load(alloc, library, &main)?);
     Ok(check_over(alloc, &main, &modules, steps)?)
 }

@@ -11,10 +11,11 @@ ghost use Rattle.chyp_check.specs.Project.{library_in, name_at};
 
 use crate::order::order;
 use crate::project::Project;
+use crate::reading::read_all;
 use crate::text::{Checked, check_statements, check_text};
 use crate::{Modules, Verdicts};
 use chyp_base::{Name, NoMemory, Steps};
-use chyp_load::MainText;
+use chyp_load::{MainText, ReadModules};
 use chyp_names::Env;
 use std::alloc::Global;
 use std::mem::replace;
@@ -88,10 +89,11 @@ pub fn check_all<G: Ledger>(
     ensures no_more { (n : ℕ) → HasChecks (with_main (library_of modules.now) text.now) n → OnErr result (steps.new ≤ steps.old + n) }
 {
     let main = MainText::new(alloc, text)?;
-    check_main(alloc, &main, modules, steps)
+    let read = read_all(alloc, modules)?;
+    check_main(alloc, &main, &read, steps)
 }
 
-/// What [`check_all`] gives, for a caller who has the statements of the text already.
+/// What [`check_all`] gives, for a caller who has read the text and its modules already.
 ///
 /// # Errors
 ///
@@ -99,7 +101,7 @@ pub fn check_all<G: Ledger>(
 pub fn check_main<G: Ledger>(
     alloc: Global,
     main: &MainText<'_>,
-    modules: &Modules,
+    modules: &ReadModules,
     steps: &mut Steps<G>,
 ) -> Result<Verdicts, NoMemory>
     requires within { AreShort modules.now }

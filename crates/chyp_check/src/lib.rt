@@ -5,7 +5,7 @@
 //! the first that isn't good. [`check_statement`] gives it with the body of the statement, for a caller
 //! who binds its name. [`check_all`] gives the verdicts of all statements of a text, over its
 //! [`Modules`]: each module that the text reaches is checked once, behind those that it imports;
-//! [`check_main`] gives them where the statements of the text were read before. All count one step a
+//! [`check_main`] gives them where the text and its modules were read before. All count one step a
 //! statement. Which verdicts these are is defined in `chyp_verdicts` and `chyp_modules`.
 #![tactic(auto)]
 
@@ -18,6 +18,7 @@ mod node;
 mod one;
 mod order;
 mod project;
+mod reading;
 mod steps;
 mod text;
 mod verdicts;

@@ -3,15 +3,14 @@ ghost use Rattle.std.specs.Prelude.{◌≡◌};
 ghost use Rattle.chyp_modules.specs.Checking.{AreDistinct};
 ghost use Rattle.chyp_load.specs.Loading.{names_of};
 
-use chyp_base::Name;
-use chyp_load::ModuleText;
+use chyp_base::{Name, Text};
 use std::marker::Model;
 
 /// Names of modules, no two the same, each with its text or with none where there is no such module.
 /// Contracts see them as that list.
 #[derive(Drop)]
 pub struct Modules {
-    list: Vec<(Name, Option<ModuleText>)>,
+    list: Vec<(Name, Option<Text>)>,
 }
 
 impl Model for Modules {
@@ -29,7 +28,7 @@ impl Model for Modules {
 
 impl Modules {
     /// The list of these modules. It takes no memory.
-    pub fn new(list: Vec<(Name, Option<ModuleText>)>) -> Modules
+    pub fn new(list: Vec<(Name, Option<Text>)>) -> Modules
         requires { AreDistinct (names_of list.items) }
         ensures { result ≡ list.items }
     {
@@ -37,7 +36,7 @@ impl Modules {
     }
 
     /// The modules, in order.
-    pub fn as_slice(&self) -> &[(Name, Option<ModuleText>)]
+    pub fn as_slice(&self) -> &[(Name, Option<Text>)]
         ensures { result.now ≡ self.now }
     {
         &self.list

@@ -4,9 +4,8 @@ ghost use Rattle.std.specs.List.{filter_map};
 ghost use Rattle.chyp_load.specs.Imports.{AreImports};
 ghost use Rattle.chyp_check.specs.Project.{name_at, node_of};
 
-use crate::Modules;
 use chyp_base::{Name, NoMemory};
-use chyp_load::{MainText, ModuleText};
+use chyp_load::{MainText, ModuleText, ReadModules};
 use std::alloc::Global;
 use std::marker::Model;
 
@@ -85,7 +84,7 @@ pub(crate) fn nodes<'a>(
     alloc: Global,
     home: &'a Name,
     main: &'a MainText<'a>,
-    modules: &'a Modules,
+    modules: &'a ReadModules,
 ) -> Result<Vec<Node<'a>>, NoMemory>
     ensures { IfOk result (λ nodes. nodes.items ≡ (home.now, main.now.text) ∷ filter_map node_of modules.now) }
 {

@@ -6,11 +6,10 @@ ghost use Rattle.chyp_load.specs.Loading.{AreShort};
 ghost use Rattle.chyp_reach.specs.Relation.{IsSquare, count_from, relates};
 ghost use Rattle.chyp_check.specs.Project.{IsMapped, library_in, name_at, node_at, node_of, text_at};
 
-use crate::Modules;
 use crate::imports::reach;
 use crate::node::{Node, nodes, place_of};
 use chyp_base::{Name, NoMemory};
-use chyp_load::MainText;
+use chyp_load::{MainText, ReadModules};
 use chyp_reach::Relation;
 use std::alloc::Global;
 use std::marker::Model;
@@ -39,7 +38,7 @@ impl<'a> Project<'a> {
         alloc: Global,
         home: &'a Name,
         main: &'a MainText<'a>,
-        modules: &'a Modules,
+        modules: &'a ReadModules,
     ) -> Result<Project<'a>, NoMemory>
         requires home { home.now ≡ [] }
         requires within { AreShort modules.now }

@@ -6,7 +6,7 @@ ghost use Rattle.chyp_lex.specs.Tokens.{AreSpans};
 use crate::*;
 use chyp_base::{MemLibrary, Name, Steps, Text, Verdict};
 use chyp_lex::{Token, each_name_is_text, lex};
-use chyp_load::{MainText, load};
+use chyp_load::{MainText, ModuleText, ReadModules, load};
 use chyp_names::{ChunkView, Env, ImportState};
 use std::alloc::Global;
 use std::marker::Brand;
@@ -132,6 +132,31 @@ fn library(alloc: Global, modules: &[(&str, &[u8])]) -> Result<MemLibrary, Fail>
     Ok(MemLibrary::new(list, Vec::new(alloc)))
 }
 
+fn text_of(alloc: Global, module: &Option<ModuleText>) -> Result<Option<Text>, Fail>
+    ensures { IfOk result (λ text. text ≡ module.now) }
+{
+    match module {
+        Some(module) => {
+            let bytes = Vec::from_slice(alloc, module.as_slice())?;
+            Ok(Some(Text::from_vec(bytes)))
+        }
+        None => Ok(None),
+    }
+}
+
+// The same modules by their texts.
+fn texts_of(alloc: Global, modules: &ReadModules) -> Result<Vec<(Name, Option<Text>)>, Fail>
+    ensures { IfOk result (λ texts. texts.items ≡ modules.now) }
+{
+    let entries = modules.as_slice();
+    let mut texts = Vec::with_capacity(alloc, entries.len())?;
+    for (name, module) in entries {
+        let text = text_of(alloc, module)?;
+        texts.push((name.share()?, text))?;
+    }
+    Ok(texts)
+}
+
 fn checked<G: Ledger>(
     alloc: Global,
     text: &[u8],
@@ -146,7 +171,9 @@ fn checked<G: Ledger>(
     let mut steps = Steps::<G>::new(blank);
     let mut library = library(alloc, modules)?;
     let main = MainText::new(alloc, text)?;
-    let modules = Modules::new(load(alloc, &mut library, &main)?);
+    let read = ReadModules::new(load(alloc, &mut library, &main)?);
+    read.distinct();
+    let modules = Modules::new(texts_of(alloc, &read)?);
     Ok(check_all(alloc, text, &modules, &mut steps)?)
 }
 
