@@ -121,6 +121,12 @@ new-are-free env bs entries is =
     subst (All (λ (b : Binding). is_bound env b.name ≡ false)) (sym is)
     (All-from (λ (b : Binding). is_bound env b.name ≡ false) (new_in env bs) (λ b has. new-unbound env bs b has))
 
+-- where nothing is bound, nothing clashes
+pub nothing-clashes : (env bs : List Binding) → length env ≡ 0 → None ≡ first_clash env bs
+nothing-clashes [] [] e = refl
+nothing-clashes [] (b ∷ bs) e = nothing-clashes [] bs e
+nothing-clashes (x ∷ env) bs e = absurd cc
+
 -- ---- entries of two maps
 
 abbrev same_name : Vec ℕ Global → Vec ℕ Global → Bool
@@ -135,25 +141,27 @@ free-behind env bs x b alone has free = each-unbound (env ++ x ∷ []) b.name (�
     go c (inr (zero, h, e)) same = unbound-each bs x.name b alone has (ap (λ (y : Binding). y.name) e ∙ sym same)
     go c (inr (suc k, h, e)) same = absurd (omega (arith, h))
 
--- entries whose names have none yet go behind the others
-pub appended : (pairs more : Pairs) → AreKept pairs → HasDistinctNames (map binding_in pairs) → AreKept more → HasDistinctNames (map binding_in more)
-    → ((b : Binding) → Contains (map binding_in more) b → is_bound (map binding_in pairs) b.name ≡ false)
-    → (AreKept (insert_all same_name pairs more) × HasDistinctNames (map binding_in (insert_all same_name pairs more)))
-    × (map binding_in (insert_all same_name pairs more) ≡ map binding_in pairs ++ map binding_in more)
-appended pairs [] kept distinct all apart' free = ((kept, distinct), sym (append-nil (map binding_in pairs)))
-appended pairs (p ∷ more) kept distinct all apart' free =
-    let env = map binding_in pairs in
-    let x = binding_in p in
-    let rest = map binding_in more in
-    let fresh : is_bound env p.0.items ≡ false = subst (λ q. is_bound env q ≡ false) (kept_head p more all).named (free x (0, omega arith, refl)) in
-    let after = insert_entry same_name pairs p.0 p.1 in
-    let one = inserted pairs after env p.0 p.1 kept refl distinct fresh (kept_head p more all) refl in
-    let behind = appended after more one.0.0 one.0.1 (kept_tail p more all) apart'.1
-    (λ b has. subst (λ e. is_bound e b.name ≡ false) (sym one.1) (free-behind env rest x b apart'.0 has (free b (Contains-cons x rest b has)))) in
-    (behind.0, behind.1 ∙ ap (λ xs. xs ++ rest) one.1 ∙ append_assoc env (x ∷ []) rest)
+-- pairs of a name with what an entry is found in
+module _ {R : Type 0} (entry_in : R → Entry) where
+  -- entries whose names have none yet go behind the others
+  pub appended : (pairs more : Pairs entry_in) → AreKept entry_in pairs → HasDistinctNames (map (binding_in entry_in) pairs) → AreKept entry_in more → HasDistinctNames (map (binding_in entry_in) more)
+      → ((b : Binding) → Contains (map (binding_in entry_in) more) b → is_bound (map (binding_in entry_in) pairs) b.name ≡ false)
+      → (AreKept entry_in (insert_all same_name pairs more) × HasDistinctNames (map (binding_in entry_in) (insert_all same_name pairs more)))
+      × (map (binding_in entry_in) (insert_all same_name pairs more) ≡ map (binding_in entry_in) pairs ++ map (binding_in entry_in) more)
+  appended pairs [] kept distinct all apart' free = ((kept, distinct), sym (append-nil (map (binding_in entry_in) pairs)))
+  appended pairs (p ∷ more) kept distinct all apart' free =
+      let env = map (binding_in entry_in) pairs in
+      let x = (binding_in entry_in) p in
+      let rest = map (binding_in entry_in) more in
+      let fresh : is_bound env p.0.items ≡ false = subst (λ q. is_bound env q ≡ false) (kept_head entry_in p more all).named (free x (0, omega arith, refl)) in
+      let after = insert_entry same_name pairs p.0 p.1 in
+      let one = inserted entry_in pairs after env p.0 p.1 kept refl distinct fresh (kept_head entry_in p more all) refl in
+      let behind = appended after more one.0.0 one.0.1 (kept_tail entry_in p more all) apart'.1
+      (λ b has. subst (λ e. is_bound e b.name ≡ false) (sym one.1) (free-behind env rest x b apart'.0 has (free b (Contains-cons x rest b has)))) in
+      (behind.0, behind.1 ∙ ap (λ xs. xs ++ rest) one.1 ∙ append_assoc env (x ∷ []) rest)
 
--- names that are free among bindings are free among the entries that these are
-pub each-free : (pairs more : Pairs) (env further : List Binding) → map binding_in pairs ≡ env → map binding_in more ≡ further → All (λ b. is_bound env b.name ≡ false) further
-    → (b : Binding) → Contains (map binding_in more) b → is_bound (map binding_in pairs) b.name ≡ false
-each-free pairs more env further are those free b has =
-    ap (λ e. is_bound e b.name) are ∙ All-contains (λ (x : Binding). is_bound env x.name ≡ false) further b free (subst (λ bs. Contains bs b) those has)
+  -- names that are free among bindings are free among the entries that these are
+  pub each-free : (pairs more : Pairs entry_in) (env further : List Binding) → map (binding_in entry_in) pairs ≡ env → map (binding_in entry_in) more ≡ further → All (λ b. is_bound env b.name ≡ false) further
+      → (b : Binding) → Contains (map (binding_in entry_in) more) b → is_bound (map (binding_in entry_in) pairs) b.name ≡ false
+  each-free pairs more env further are those free b has =
+      ap (λ e. is_bound e b.name) are ∙ All-contains (λ (x : Binding). is_bound env x.name ≡ false) further b free (subst (λ bs. Contains bs b) those has)

@@ -9,12 +9,13 @@ use chyp_base::NoMemory;
 use indexmap::IndexMap;
 use std::alloc::Global;
 use std::marker::Model;
+use std::rc::Rc;
 
-/// Entries with what is found under their names, in the order in which they came. Contracts see them as
-/// the list of their bindings, which is sound.
+/// Entries with what is found under their names, in the order in which they came. They may be shared with
+/// other lists. Contracts see them as the list of their bindings, which is sound.
 #[derive(Drop)]
 pub(crate) struct Entries {
-    map: IndexMap<Vec<u8>, Entry>,
+    map: IndexMap<Vec<u8>, Rc<Entry>>,
 }
 
 impl Model for Entries {
@@ -31,10 +32,10 @@ impl Model for Entries {
     ghost use Rattle.chyp_env.specs.Kept.{IsKept};
     ghost use Rattle.chyp_env.specs.Sound.{HasDistinctNames};
 
-    ghost view = { λ e. each (λ pair. entry_of pair.1) e.map.entries };
+    ghost view = { λ e. each (λ pair. entry_of pair.1.value) e.map.entries };
 
-    ghost invariant = { λ e. All (λ pair. IsKept pair.0.items pair.1) e.map.entries
-        × HasDistinctNames (each (λ pair. entry_of pair.1) e.map.entries) };
+    ghost invariant = { λ e. All (λ pair. IsKept pair.0.items pair.1.value) e.map.entries
+        × HasDistinctNames (each (λ pair. entry_of pair.1.value) e.map.entries) };
 }
 
 impl Entries {
@@ -57,7 +58,10 @@ impl Entries {
         ensures some { IfSome result (λ entry. binding_of self.now name.now ≡ Some (entry_of entry.now)) }
         ensures none { IfNone result (binding_of self.now name.now ≡ None) }
     {
-        self.map.get(name)
+        match self.map.get(name) {
+            Some(entry) => Some(entry.as_ref()),
+            None => None,
+        }
     }
 
     /// How many entries there are.
@@ -68,9 +72,9 @@ impl Entries {
     }
 
     /// The entry of this number, from 0. It takes constant time, and no memory.
-    pub(crate) fn at(&self, number: usize) -> &Entry
+    pub(crate) fn at(&self, number: usize) -> &Rc<Entry>
         requires { number < length self.now }
-        ensures { slice_get self.now number ≡ Some (entry_of result.now) }
+        ensures { slice_get self.now number ≡ Some (entry_of result.now.value) }
     {
         match self.map.get_index(number) {
             Some((_, entry)) => entry,
@@ -90,10 +94,10 @@ impl Entries {
     /// # Errors
     ///
     /// `NoMemory` where it can't be kept; nothing is added then.
-    pub(crate) fn insert(&mut self, entry: Entry) -> Result<(), NoMemory>
-        requires fresh { is_bound self.old entry.name ≡ false }
-        requires sound { IsSoundSense (sense_of entry.meaning) }
-        ensures ok { OnOk result (self.new ≡ self.old ++ entry_of entry ∷ []) }
+    pub(crate) fn insert(&mut self, entry: Rc<Entry>) -> Result<(), NoMemory>
+        requires fresh { is_bound self.old entry.value.name ≡ false }
+        requires sound { IsSoundSense (sense_of entry.value.meaning) }
+        ensures ok { OnOk result (self.new ≡ self.old ++ entry_of entry.value ∷ []) }
         ensures err { OnErr result (self.new ≡ self.old) }
     {
         let name = key_of(self.allocator(), &entry)?;
@@ -102,7 +106,8 @@ impl Entries {
         Ok(())
     }
 
-    /// Adds further entries, whose names are new, in their order.
+    /// Adds further entries, whose names are new, in their order. Where none is there yet, they become
+    /// these, which takes constant time.
     ///
     /// # Errors
     ///
@@ -112,6 +117,10 @@ impl Entries {
         ensures ok { OnOk result (self.new ≡ self.old ++ further) }
         ensures err { OnErr result (self.new ≡ self.old) }
     {
+        if self.map.is_empty() {
+            *self = further;
+            return Ok(());
+        }
         self.map.append(&mut further.map)?;
         Ok(())
     }

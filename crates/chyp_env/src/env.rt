@@ -14,6 +14,7 @@ use crate::{Entry, PlainWires};
 use chyp_base::NoMemory;
 use std::alloc::Global;
 use std::marker::Model;
+use std::rc::Rc;
 
 /// What names stand for, in the order of binding, each name once. Contracts see it as the list of its
 /// bindings, of `specs/Environment.antt`, and it is always sound and closed: terms are typed and within
@@ -22,7 +23,7 @@ use std::marker::Model;
 #[derive(Drop)]
 pub struct Env {
     entries: Entries,
-    plain: Option<PlainWires>,
+    plain: Option<Rc<PlainWires>>,
 }
 
 impl Model for Env {
@@ -74,6 +75,14 @@ impl Env {
         requires { number < length self.now }
         ensures { slice_get self.now number ≡ Some (entry_of result.now) }
     {
+        self.entries.at(number).as_ref()
+    }
+
+    /// The same, for another environment to share it.
+    pub(crate) fn shared_entry(&self, number: usize) -> &Rc<Entry>
+        requires { number < length self.now }
+        ensures { slice_get self.now number ≡ Some (entry_of result.now.value) }
+    {
         self.entries.at(number)
     }
 
@@ -96,10 +105,10 @@ impl Env {
     /// # Errors
     ///
     /// `NoMemory` where they can't be kept, or can't be shared once more.
-    pub fn plain_wires(&self) -> Result<PlainWires, NoMemory> {
+    pub fn plain_wires(&self) -> Result<Rc<PlainWires>, NoMemory> {
         match &self.plain {
-            Some(plain) => plain.share(),
-            None => PlainWires::new(self.allocator()),
+            Some(plain) => Ok(plain.clone()?),
+            None => new_plain(self.allocator()),
         }
     }
 
@@ -108,7 +117,7 @@ impl Env {
         ensures { self.new ≡ self.old }
     {
         if self.plain.is_none() {
-            self.plain = Some(PlainWires::new(self.allocator())?);
+            self.plain = Some(new_plain(self.allocator())?);
         }
         Ok(())
     }
@@ -132,6 +141,7 @@ impl Env {
         ensures err { OnErr result (self.new ≡ self.old) }
     {
         self.keep_plain()?;
+        let entry = Rc::new(self.allocator(), entry)?;
         self.entries.insert(entry)
     }
 
@@ -154,4 +164,9 @@ impl Env {
         self.keep_plain()?;
         self.entries.append(entries)
     }
+}
+
+// The plain wires, for several owners.
+fn new_plain(alloc: Global) -> Result<Rc<PlainWires>, NoMemory> {
+    Ok(Rc::new(alloc, PlainWires::new(alloc)?)?)
 }

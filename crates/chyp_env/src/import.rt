@@ -8,9 +8,11 @@ ghost use Rattle.chyp_env.specs.Sound.{IsSoundSense};
 use crate::entries::Entries;
 use crate::{Entry, Env, Origin};
 use chyp_base::{Name, NoMemory};
+use std::alloc::Global;
+use std::rc::Rc;
 
 /// The first name that an import of the module with this prefix would bind, and that is bound already to
-/// another statement. None where there is none.
+/// another statement. None where there is none, as where nothing is bound.
 ///
 /// # Errors
 ///
@@ -22,6 +24,9 @@ pub fn first_clash(
 ) -> Result<Option<Name>, NoMemory>
     ensures { IfOk result (λ clash. clash ≡ first_clash env.now (all_passed_on (option_copied prefix.entry) imported.now)) }
 {
+    if env.count() == 0 {
+        return Ok(None);
+    }
     let alloc = env.allocator();
     for number in 0..imported.count() {
         let entry = imported.entry(number);
@@ -60,26 +65,37 @@ pub(crate) fn new_entries(
     imported.sound();
     let mut entries = Entries::new(env.allocator());
     for number in 0..imported.count() {
-        add(&mut entries, env, imported.entry(number), prefix)?;
+        add(&mut entries, env, imported.shared_entry(number), prefix)?;
     }
     Ok(entries)
+}
+
+// An entry as an import passes it on. Without a prefix it is shared.
+fn passed_on(alloc: Global, entry: &Rc<Entry>, prefix: Option<&str>) -> Result<Rc<Entry>, NoMemory>
+    ensures { IfOk result (λ passed. entry_of passed.value ≡ passed_on (option_copied prefix.entry) (entry_of entry.now.value)) }
+{
+    if prefix.is_none() {
+        return Ok(entry.clone()?);
+    }
+    let name = entry.prefixed(alloc, prefix)?;
+    Ok(Rc::new(alloc, entry.renamed(name)?)?)
 }
 
 // Adds an entry of a module as an import passes it on, unless its name is bound already.
 fn add(
     entries: &mut Entries,
     env: &Env,
-    entry: &Entry,
+    entry: &Rc<Entry>,
     prefix: Option<&str>,
 ) -> Result<(), NoMemory>
-    requires fresh { is_bound entries.old (prefixed (option_copied prefix) entry.now.name) ≡ false }
-    requires sound { IsSoundSense (sense_of entry.now.meaning) }
+    requires fresh { is_bound entries.old (prefixed (option_copied prefix) entry.now.value.name) ≡ false }
+    requires sound { IsSoundSense (sense_of entry.now.value.meaning) }
     ensures { OnOk result (entries.new
-        ≡ entries.old ++ new_in env.now (passed_on (option_copied prefix.entry) (entry_of entry.now) ∷ [])) }
+        ≡ entries.old ++ new_in env.now (passed_on (option_copied prefix.entry) (entry_of entry.now.value) ∷ [])) }
 {
-    let name = entry.prefixed(env.allocator(), prefix)?;
-    if env.lookup(name.as_str().as_bytes()).is_some() {
+    let passed = passed_on(env.allocator(), entry, prefix)?;
+    if env.lookup(passed.name.as_str().as_bytes()).is_some() {
         return Ok(());
     }
-    entries.insert(entry.renamed(name)?)
+    entries.insert(passed)
 }

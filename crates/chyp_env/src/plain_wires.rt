@@ -59,22 +59,6 @@ impl PlainWires {
         })
     }
 
-    /// The same plain wires.
-    ///
-    /// # Errors
-    ///
-    /// `NoMemory` where they can't be shared once more.
-    pub(crate) fn share(&self) -> Result<PlainWires, NoMemory> {
-        Ok(PlainWires {
-            sort: self.sort.share()?,
-            one: self.one.share()?,
-            two: self.two.share()?,
-            none: copy(&self.none)?,
-            wire: copy(&self.wire)?,
-            crossing: copy(&self.crossing)?,
-        })
-    }
-
     /// So many plain wires, in a list that is shared.
     ///
     /// # Errors

@@ -247,7 +247,7 @@ fn check_known(alloc: Global, env: &Env, term: &Term) -> Result<(), Fail>
     ensures { OnOk result (HasPlainPermutations (morphism_of term.now)) }
 {
     let plain = env.plain_wires()?;
-    let checked = check_plain(alloc, &plain, term);
+    let checked = check_plain(alloc, plain.as_ref(), term);
     drop(plain);
     checked
 }

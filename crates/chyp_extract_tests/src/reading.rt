@@ -125,7 +125,7 @@ fn meant(alloc: Global, tree: &TermAst, scope: &Scope<'_>) -> Result<String, Fai
         return Err(Fail::new("too big"));
     }
     let plain = scope.env().plain_wires()?;
-    let known = KnownTerm::of_tree(alloc, &plain, tree, scope);
+    let known = KnownTerm::of_tree(alloc, plain.as_ref(), tree, scope);
     drop(plain);
     match known {
         Ok(known) => told_known(alloc, known),

@@ -80,7 +80,7 @@ fn typed_terms(
         FailsFirst (tests_at scope.now (statement_of ast.now)) token }
 {
     let plain = scope.env().plain_wires()?;
-    let result = terms(alloc, &plain, module, ast, scope);
+    let result = terms(alloc, plain.as_ref(), module, ast, scope);
     // As a call, it takes one step of the proof.
     drop(plain);
     result

@@ -1,8 +1,12 @@
 use Rattle.std.proofs.Common.{◌≡◌, ◌∙◌, true, false, Some, option_copied, sym, ap}
 use Rattle.chyp_env.specs.Entry.{entry_of}
-use Rattle.chyp_env.specs.Import.{clashes, passed_on}
-use Rattle.chyp_env.proofs.Turns.{clash-there, no-clash-next}
+use Rattle.chyp_env.specs.Import.{all_passed_on, clashes, passed_on}
+use Rattle.chyp_env.proofs.Turns.{clash-there, no-clash-next, nothing-clashes}
 use Rattle.chyp_env.proofs.import.first_clash.Goals as goal
+
+pub returns-then-count-eq0 : goal.returns-then-count-eq0
+returns-then-count-eq0 c =
+    nothing-clashes c.args.env.now (all_passed_on (option_copied c.args.prefix) c.args.imported.now) (cc (c.count.ensures, c.if-count-eq0.true))
 
 pub returns-then-clashes : goal.returns-then-clashes
 returns-then-clashes c =

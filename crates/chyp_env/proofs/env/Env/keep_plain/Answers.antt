@@ -4,8 +4,8 @@ use Rattle.chyp_env.proofs.env.Env.keep_plain.Goals as goal
 pub same-self : goal.same-self
 same-self c = refl
 
-pub returns-in_err-new : goal.returns-in_err-new
-returns-in_err-new c = refl
+pub returns-in_err-new_plain : goal.returns-in_err-new_plain
+returns-in_err-new_plain c = refl
 
 pub returns-else-is_none : goal.returns-else-is_none
 returns-else-is_none c = refl
