@@ -5,6 +5,8 @@ pub mod Reaching
 pub mod Exist
 pub mod Verdicts
 pub mod Meanings
+pub mod Adding
+pub mod Declared
 pub mod Generators
 pub mod Named
 pub mod Agreeing

@@ -1,5 +1,5 @@
 -- What holds of the modules of a library.
-use Rattle.std.specs.Prelude.{◌≡◌, ℕ, List, [], Some, Contains}
+use Rattle.std.specs.Prelude.{◌≡◌, ℕ, List, [], map, Some, Contains}
 use Rattle.chyp_base.specs.declared.sort.Sort.{Sort}
 use Rattle.chyp_base.specs.declared.verdict.Verdict.{Verdict}
 use Rattle.chyp_base.specs.declared.verdict.Verdict.TheVariants.{Proved}
@@ -8,6 +8,7 @@ use Rattle.chyp_env.specs.Environment.{Sense, generator, abbreviation, law, unpr
 use Rattle.chyp_env.specs.Site.{Site}
 use Rattle.chyp_verdicts.specs.Judged.{IsJudged}
 use Rattle.chyp_verdicts.specs.Rules.{IsDerived, IsRewriteOf}
+use Rattle.chyp_modules.specs.Declares.{Declaration, Declares, HasDeclarations}
 use Rattle.chyp_modules.specs.Import.{Reaches}
 use Rattle.chyp_modules.specs.Library.{Library, Module, library_of, with_main}
 use Rattle.chyp_modules.specs.Modules.{Makes, Stands, HasEnvironment, AreVerdicts, standing}
@@ -78,3 +79,31 @@ HasBoundSense env broken = Unit {0}
 abbrev pub GeneratorsAreBound : Type 0
 GeneratorsAreBound = (library : Library) (name : List ℕ) (number : ℕ) (env : List Binding) → Makes library name number env
     → (b : Binding) → Contains env b → HasBoundSense env b.sense
+
+-- the name and the origin of each binding, without its sense
+abbrev pub declarations_of : List Binding → List Declaration
+declarations_of env = map (λ (b : Binding). record { name = b.name; origin = b.origin }) env
+
+-- the first statements of a module make an environment whose names and origins are these
+pub record AreBound (library : Library) (name : List ℕ) (number : ℕ) (declarations : List Declaration) : Type 0 where
+  pub env : List Binding
+  pub makes : Makes library name number env
+  pub names : declarations_of env ≡ declarations
+
+-- What names an environment has, with their origins, comes from the texts: those that they declare are bound, and no others, in one
+-- order, whatever the verdicts are.
+abbrev pub NamesComeFromTexts : Type 0
+NamesComeFromTexts = (library : Library) (name : List ℕ) (number : ℕ) (declarations : List Declaration)
+    → (Declares library name number declarations → AreBound library name number declarations)
+    × (AreBound library name number declarations → Declares library name number declarations)
+
+-- the statements of a module declare exactly one list of names
+pub record HasOneListOfDeclarations (library : Library) (name : List ℕ) : Type 0 where
+  pub declarations : List Declaration
+  pub are : HasDeclarations library name declarations
+  pub only : (others : List Declaration) → HasDeclarations library name others → others ≡ declarations
+
+-- so it is for each module that is there and reaches finitely many
+abbrev pub DeclarationsAreDetermined : Type 0
+DeclarationsAreDetermined = (library : Library) (name text : List ℕ) → library name ≡ Some text → ReachesFinitelyMany library name
+    → HasOneListOfDeclarations library name

@@ -1,12 +1,12 @@
-//! The modules of a library: their environments, their verdicts and what these say, and the rules that
-//! their laws rest on.
+//! The modules of a library: their environments, their verdicts and what these say, the names that their
+//! texts declare, and the rules that their laws rest on.
 //!
-//! This is a law function, whose body only calls those of the crates below.
+//! These are law functions, whose bodies only call those of the crates below.
 #![tactic(auto)]
 
 ghost use Rattle.chyp_modules.specs.Checking.{TextsHaveOneResult};
 ghost use Rattle.chyp_modules.specs.Explained.{VerdictsAreExplained};
-ghost use Rattle.chyp_modules.specs.Laws.{GeneratorsAreBound, ModulesAreDetermined, OriginsDetermineSenses, ProvedRewritesAreDerived, TextsAreDetermined};
+ghost use Rattle.chyp_modules.specs.Laws.{DeclarationsAreDetermined, GeneratorsAreBound, ModulesAreDetermined, NamesComeFromTexts, OriginsDetermineSenses, ProvedRewritesAreDerived, TextsAreDetermined};
 
 use chyp_laws::{graphs_decide_the_laws, rewrites_are_graphs};
 use chyp_lex::every_text_has_one_token_list;
@@ -31,6 +31,24 @@ pub fn modules_are_determined()
     ensures explained { VerdictsAreExplained }
     ensures senses { OriginsDetermineSenses }
     ensures generators { GeneratorsAreBound }
+{
+    every_text_has_one_token_list();
+    each_text_has_one_list_of_chunks();
+    each_chunk_is_a_sentence_or_fails();
+    each_beginning_of_a_prefix_is_one();
+    each_sentence_has_one_tree();
+    types_are_decided();
+    graphs_decide_the_laws();
+    rewrites_are_graphs();
+}
+
+/// What names the statements of a module bind, and from which statement each comes, is told by the texts
+/// alone: those that they declare are bound, and no others, in the same order, whatever the verdicts are.
+/// What the names stand for comes with the verdicts. Each module that is there, and reaches finitely many,
+/// declares exactly one list of names.
+pub fn names_come_from_texts()
+    ensures bound { NamesComeFromTexts }
+    ensures determined { DeclarationsAreDetermined }
 {
     every_text_has_one_token_list();
     each_text_has_one_list_of_chunks();
