@@ -1,25 +1,22 @@
 -- What names an environment has, with their origins, is what the texts declare.
-use Rattle.std.proofs.Common.{◌≡◌, ℕ, suc, false, true, List, [], ◌∷◌, ◌++◌, length, Option, Some, None, slice_get, refl, sym, ◌∙◌, ap, ap₂, subst, arith}
+use Rattle.std.proofs.Common.{◌≡◌, ℕ, suc, true, List, [], ◌∷◌, ◌++◌, length, Option, Some, None, slice_get, refl, sym, ◌∙◌, ap, ap₂, subst}
 use Rattle.std.specs.Prelude.{option_map}
-use Rattle.std.specs.Option.{option_map_or}
-use Rattle.std.proofs.lemmas.List.Elements.{All-nil}
 use Rattle.chyp_base.specs.declared.verdict.Verdict.{Verdict}
-use Rattle.chyp_base.specs.declared.verdict.Verdict.TheVariants.{Accepted, Clash}
+use Rattle.chyp_base.specs.declared.verdict.Verdict.TheVariants.{Accepted}
 use Rattle.chyp_syntax.specs.Heading.{declared_name}
 use Rattle.chyp_syntax.specs.Sentence.{IsSentence}
 use Rattle.chyp_syntax.specs.Statement.{inclusion}
 use Rattle.chyp_syntax.specs.Words.{Word, bytes_at}
 use Rattle.chyp_env.specs.Environment.{Binding, is_bound}
 use Rattle.chyp_env.specs.Import.{all_passed_on, first_clash}
-use Rattle.chyp_env.specs.Scope.{is_declared}
 use Rattle.chyp_env.specs.Site.{Imported, Site, absent, nothing as alone, on_cycle, there}
 use Rattle.chyp_names.specs.Binding.{Binds, TakesIn, again, anew, imports, nothing}
-use Rattle.chyp_names.specs.Elaboration.{at_import, fault_of_module, import_fault, prefix_at}
-use Rattle.chyp_verdicts.specs.Judged.{IsJudged, accepted, refused}
+use Rattle.chyp_names.specs.Elaboration.{prefix_at}
+use Rattle.chyp_verdicts.specs.Judged.{IsJudged}
 use Rattle.chyp_verdicts.specs.Standing.{Origin}
 use Rattle.chyp_verdicts.proofs.Known.{Known}
 use Rattle.chyp_verdicts.proofs.OneBinding.{imports-nothing}
-use Rattle.chyp_verdicts.proofs.OneVerdict.{judged-once, none-some, some-once}
+use Rattle.chyp_verdicts.proofs.OneVerdict.{none-some, some-once}
 use Rattle.chyp_verdicts.proofs.Sites.{some-binds}
 use Rattle.chyp_verdicts.proofs.SomeVerdict.{some-verdict}
 use Rattle.chyp_modules.specs.Declares.{Adds, Declaration, Declares, Offers, at_start, its_name, no_name, none, of_circle, of_module, of_none, offered_by, one_more}
@@ -30,39 +27,10 @@ use Rattle.chyp_modules.specs.Modules.{Finds, Makes, Stands, stands}
 use Rattle.chyp_modules.specs.Modules.{at_start as starts, no_import, of_circle as circle_found, of_module as found, of_none as none_found, one_more as makes_more}
 use Rattle.chyp_modules.proofs.Adding.{adds-again, adds-anew, adds-import, adds-nothing, adds-once, clash-found, offered-same}
 use Rattle.chyp_modules.proofs.Exist.{import-state}
+use Rattle.chyp_modules.proofs.Importing.{accepted-fits, fits-accepted}
 use Rattle.chyp_modules.proofs.Reaching.{begins}
 use Rattle.chyp_modules.proofs.Senses.{makes-sound}
 use Rattle.chyp_modules.proofs.Verdicts.{modules-determined}
-
--- ---- the verdict of an import of a module that is there
-
--- it declares no name
-undeclared : (s : Site) (word : ℕ) (as_word : Option ℕ) → IsSentence s.scope.words (inclusion word as_word) → is_declared s.scope ≡ false
-undeclared s word as_word t = go (declared_name s.scope.words) refl
-  where
-    go : (o : Option (List ℕ)) → declared_name s.scope.words ≡ o → option_map_or (is_bound s.scope.env) o false ≡ false
-    go None e = refl
-    go (Some name) e = absurd (imports-nothing s word as_word name t e)
-
-abbrev verdict_with : Option (List ℕ) → Verdict
-verdict_with None = Accepted
-verdict_with (Some name) = Clash name
-
--- only a clash refuses it
-import-judged : (s : Site) (word : ℕ) (as_word : Option ℕ) (env : List Binding) → IsSentence s.scope.words (inclusion word as_word) → s.imported ≡ there env
-    → (clash : Option (List ℕ)) → first_clash s.scope.env (all_passed_on (prefix_at s.scope as_word) env) ≡ clash → IsJudged s (verdict_with clash)
-import-judged s word as_word env t i clash e = go clash (ap (λ x. fault_of_module s.scope.env x (prefix_at s.scope as_word)) i ∙ ap (option_map Clash) e)
-  where
-    go : (clash : Option (List ℕ)) → import_fault s (inclusion word as_word) ≡ option_map Clash clash → IsJudged s (verdict_with clash)
-    go None fits = accepted t (record {
-      fresh = undeclared s word as_word t;
-      fits = fits;
-      known = refl;
-      small = record { ports = tt; each = All-nil _; together = omega arith };
-      typed = All-nil _;
-      proved = refl;
-    }) refl
-    go (Some name) fault = refused t (at_import (undeclared s word as_word t) fault)
 
 -- ---- what a statement offers
 
@@ -108,9 +76,10 @@ binds-adds known s number v next offered (passed {word} {as_word} {env} t i d) j
     all = all_passed_on (prefix_at s.scope as_word) env
 
     go : (clash : Option (List ℕ)) → first_clash s.scope.env all ≡ clash → Adds (declarations_of s.scope.env) offered (declarations_of s.scope.env)
-    go None e = absurd (o (taken s.imported v env i (judged-once known s v Accepted j (import-judged s word as_word env t i None e))))
+    go None e = absurd (o (taken s.imported v env i (fits-accepted known s v word as_word env t i j e)))
     go (Some name) e = subst (λ x. Adds (declarations_of s.scope.env) x (declarations_of s.scope.env)) (sym d) (none (clash-found s.scope.env all name e))
-binds-adds known s number v next offered (passed {word} {as_word} {env} t i d) j (imports {word = w} {as_word = p} {env = end} f u k) = go (first_clash s.scope.env all) refl
+binds-adds known s number v next offered (passed {word} {as_word} {env} t i d) j (imports {word = w} {as_word = p} {env = end} f u k) =
+    subst (λ x. Adds (declarations_of s.scope.env) x (declarations_of next)) (sym same) (adds-import s.scope.env all (accepted-fits known s v w p end u k j f))
   where
     all : List Binding
     all = all_passed_on (prefix_at s.scope p) end
@@ -120,12 +89,6 @@ binds-adds known s number v next offered (passed {word} {as_word} {env} t i d) j
 
     same : offered ≡ declarations_of all
     same = d ∙ ap₂ (λ x y. declarations_of (all_passed_on (option_map (bytes_at s.scope.words) x) y)) prefixes (one-there env end (sym i ∙ k))
-
-    go : (clash : Option (List ℕ)) → first_clash s.scope.env all ≡ clash → Adds (declarations_of s.scope.env) offered (declarations_of next)
-    go None e = subst (λ x. Adds (declarations_of s.scope.env) x (declarations_of next)) (sym same) (adds-import s.scope.env all e)
-    go (Some name) e =
-        let both : Accepted ≡ Clash name = sym f ∙ judged-once known s v (Clash name) j (import-judged s w p end u k (Some name) e) in
-        absurd cc
 
 -- ---- what is bound is declared
 

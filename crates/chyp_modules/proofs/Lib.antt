@@ -7,6 +7,7 @@ pub mod Verdicts
 pub mod Meanings
 pub mod Adding
 pub mod Declared
+pub mod Importing
 pub mod Generators
 pub mod Named
 pub mod Agreeing

@@ -1,10 +1,10 @@
 -- What holds of the modules of a library.
 use Rattle.std.specs.Prelude.{◌≡◌, ℕ, List, [], map, Some, Contains}
-use Rattle.chyp_base.specs.declared.sort.Sort.{Sort}
 use Rattle.chyp_base.specs.declared.verdict.Verdict.{Verdict}
 use Rattle.chyp_base.specs.declared.verdict.Verdict.TheVariants.{Proved}
-use Rattle.chyp_term.specs.Morphism.{Morphism, generator as a_generator, permutation, then, beside}
-use Rattle.chyp_env.specs.Environment.{Sense, generator, abbreviation, law, unproved, broken, Binding}
+use Rattle.chyp_term.specs.Morphism.{Morphism}
+use Rattle.chyp_env.specs.Closed.{HasBoundSense}
+use Rattle.chyp_env.specs.Environment.{Binding}
 use Rattle.chyp_env.specs.Site.{Site}
 use Rattle.chyp_verdicts.specs.Judged.{IsJudged}
 use Rattle.chyp_verdicts.specs.Rules.{IsDerived, IsRewriteOf}
@@ -53,27 +53,6 @@ abbrev pub OriginsDetermineSenses : Type 0
 OriginsDetermineSenses = (library : Library) (name other : List ℕ) (m n : ℕ) (env end : List Binding) → Makes library name m env
     → Makes library other n end
     → (a b : Binding) → Contains env a → Contains end b → a.origin ≡ b.origin → a.sense ≡ b.sense
-
--- a binding of the environment is that of the generator
-pub record IsBoundGenerator (env : List Binding) (name : List ℕ) (dom cod : List Sort) : Type 0 where
-  pub binding : Binding
-  pub has : Contains env binding
-  pub is : binding.sense ≡ generator name dom cod
-
--- so is one for each generator of a term
-abbrev pub HasBoundGenerators : List Binding → Morphism → Type 0
-HasBoundGenerators env (a_generator name dom cod) = IsBoundGenerator env name dom cod
-HasBoundGenerators env (permutation sorts places) = Unit {0}
-HasBoundGenerators env (then s t) = HasBoundGenerators env s × HasBoundGenerators env t
-HasBoundGenerators env (beside s t) = HasBoundGenerators env s × HasBoundGenerators env t
-
--- and of all terms that names stand for
-abbrev pub HasBoundSense : List Binding → Sense → Type 0
-HasBoundSense env (generator name dom cod) = IsBoundGenerator env name dom cod
-HasBoundSense env (abbreviation term) = HasBoundGenerators env term
-HasBoundSense env (law first last) = HasBoundGenerators env first × HasBoundGenerators env last
-HasBoundSense env unproved = Unit {0}
-HasBoundSense env broken = Unit {0}
 
 -- each generator of a term that a name stands for has a binding of its own in the same environment
 abbrev pub GeneratorsAreBound : Type 0
