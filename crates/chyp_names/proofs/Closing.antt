@@ -1,5 +1,5 @@
 -- What a statement binds leaves a closed environment closed.
-use Rattle.std.proofs.Common.{◌≡◌, ℕ, zero, suc, ◌-◌, ◌<◌, Bool, true, false, ◌&&◌, cond, List, [], ◌∷◌, ◌++◌, length, map, slice_get, slice_index_or, unwrap_or, Option, Some, None, IfSome, All, Result, refl, sym, ap, subst, ◌∙◌, arith, is_some, true≢false}
+use Rattle.std.proofs.Common.{◌≡◌, ℕ, zero, suc, ◌-◌, Bool, true, false, ◌&&◌, cond, List, [], ◌∷◌, ◌++◌, length, map, slice_get, unwrap_or, Option, Some, None, IfSome, All, refl, sym, ap, subst, ◌∙◌, arith, is_some, true≢false}
 use Rattle.std.specs.List.{cons_option}
 use Rattle.std.specs.Option.{option_map}
 use Rattle.std.proofs.lemmas.List.Elements.{All-cons, All-head, All-nil, All-tail}
@@ -21,7 +21,7 @@ use Rattle.chyp_env.specs.ChunkView.{AreNamed}
 use Rattle.chyp_env.specs.Closed.{FitsBehind, HasBoundGenerators, HasBoundSense, IsClosed}
 use Rattle.chyp_env.specs.Environment.{Sense, generator, abbreviation, law, Binding}
 use Rattle.chyp_env.specs.Import.{all_passed_on, first_clash}
-use Rattle.chyp_env.specs.Site.{Imported, IsImportState, Site, an_import, no_import, nothing, there}
+use Rattle.chyp_env.specs.Site.{Imported, IsImportState, Site, an_import, no_import, there}
 use Rattle.chyp_env.proofs.Closed.{AreBound, covers-append, term-covered}
 use Rattle.chyp_env.proofs.BoundTerms.{expansion-bound}
 use Rattle.chyp_names.specs.declared.body.Body.{Body}
@@ -30,7 +30,6 @@ use Rattle.chyp_names.specs.Elaboration.{expansion_at, fault_of_module, import_f
 use Rattle.chyp_names.specs.Outcome.{sense_for, terms_in}
 use Rattle.chyp_names.specs.Trees.{goals_of}
 use Rattle.chyp_names.proofs.Stands.{outcome_fit, site_at}
-use Rattle.std.specs.Prelude.{Contains}
 use Rattle.std.proofs.lemmas.List.Elements.{Contains-push}
 
 -- ---- the terms of a statement

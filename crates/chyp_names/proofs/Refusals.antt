@@ -1,24 +1,18 @@
 -- What refuses a statement.
-use Rattle.std.proofs.Common.{Bor, subst, ◌≡◌, ℕ, true, false, List, [], ◌∷◌, map, Option, None, Some, IfSome, refl, sym, ap, ap₂, ◌∙◌, ◌||◌}
+use Rattle.std.proofs.Common.{◌≡◌, ℕ, false, List, [], ◌∷◌, map, Option, None, Some, IfSome, refl, sym, ap, ap₂, ◌∙◌, ◌||◌}
 use Rattle.std.specs.Prelude.{is_none, option_map}
 use Rattle.std.specs.List.{list_any}
 use Rattle.chyp_base.specs.declared.verdict.Verdict.{Verdict}
-use Rattle.std.proofs.lemmas.Bool.{false≢true}
 use Rattle.chyp_syntax.specs.declared.statement.Ast.{Ast}
 use Rattle.chyp_syntax.specs.declared.statement.Ast.TheVariants.{RewriteDecl}
 use Rattle.chyp_syntax.specs.declared.step.StepAst.{StepAst}
 use Rattle.chyp_syntax.specs.declared.term.TermAst.{TermAst}
-use Rattle.chyp_syntax.specs.Statement.{StatementTree, generator, definition, rule, rewrite, inclusion, showing, statement_of}
+use Rattle.chyp_syntax.specs.Statement.{StatementTree, statement_of}
 use Rattle.chyp_syntax.specs.Step.{step_of}
 use Rattle.chyp_syntax.specs.Term.{tree_of}
-use Rattle.chyp_base.specs.declared.verdict.Verdict.TheVariants.{NoModule, Cycle}
-use Rattle.chyp_env.specs.declared.import_state.ImportState.{ImportState}
-use Rattle.chyp_env.specs.declared.import_state.ImportState.TheVariants.{NotImport, Absent, OnCycle}
-use Rattle.chyp_env.specs.Environment.{Binding}
-use Rattle.chyp_env.specs.ImportState.{imported_of}
 use Rattle.chyp_env.specs.Scope.{is_declared}
 use Rattle.chyp_env.specs.Site.{Site}
-use Rattle.chyp_names.specs.Elaboration.{IsRefused, is_import, import_fault, fault_of_module, prefix_at, has_hole, at_name, mistyped, unproved, terms_of}
+use Rattle.chyp_names.specs.Elaboration.{IsRefused, import_fault, has_hole, at_name, mistyped, unproved, terms_of}
 use Rattle.chyp_names.specs.Limits.{AreWithinLimits}
 use Rattle.chyp_names.specs.Refusal.{IsRefusedByTerms}
 use Rattle.chyp_names.specs.Refusal as here

@@ -1,5 +1,5 @@
 -- What the name of a statement stands for, by its keyword, its terms and its verdict. No public clause cites this.
-use Rattle.std.specs.Prelude.{◌≡◌, ◌-◌, ◌<◌, List, [], length, get_or, Option, None, Some, option_map, slice_get}
+use Rattle.std.specs.Prelude.{◌≡◌, ◌-◌, ◌<◌, List, [], length, get_or, Option, None, Some}
 use Rattle.chyp_base.specs.declared.verdict.Verdict.{Verdict}
 use Rattle.chyp_base.specs.declared.verdict.Verdict.TheVariants.{Accepted, Proved}
 use Rattle.chyp_lex.specs.declared.token.TokenKind.{TokenKind}

@@ -1,5 +1,5 @@
 -- The trees of a statement: one behind its name, and one behind each of its `=`.
-use Rattle.std.specs.Prelude.{ℕ, List, [], ◌∷◌, Option, None, Some}
+use Rattle.std.specs.Prelude.{List, [], ◌∷◌, Option, None, Some}
 use Rattle.std.specs.List.{cons_option, filter_map}
 use Rattle.chyp_syntax.specs.declared.step.ReasonAst.TheVariants.{Plain}
 use Rattle.chyp_syntax.specs.Statement.{StatementTree, definition, rule, rewrite}

@@ -26,7 +26,8 @@ tests_of_steps meaning first (step ∷ steps) = tests_of_goal step.goal ++ tests
 -- the tests of a statement: those of its first tree, and of each tree behind an `=`
 abbrev pub tests_of_statement : (ℕ → Morphism) → StatementTree → List Test
 tests_of_statement meaning tree =
-    option_map_or (λ first. tests_of meaning first ++ tests_of_steps meaning (expansion_in meaning first) (steps_of tree)) (first_tree tree) []
+    option_map_or (λ first. tests_of meaning first ++ tests_of_steps meaning (expansion_in meaning first) (steps_of tree))
+    (first_tree tree) []
 
 -- each two of the terms are an equation: all are typed, and have one type
 abbrev pub AreTypedAlike : List Morphism → Type 0

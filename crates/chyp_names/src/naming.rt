@@ -4,7 +4,7 @@ ghost use Rattle.chyp_syntax.specs.Statement.{statement_of};
 ghost use Rattle.chyp_syntax.specs.Step.{step_of};
 ghost use Rattle.chyp_syntax.specs.Term.{tree_of};
 ghost use Rattle.chyp_names.specs.Faults.{first_fault_among, first_unproved_among};
-ghost use Rattle.chyp_names.specs.Naming.{in_term, in_reason, in_show, names_of_reason, uses_in, uses_in_goal, uses_in_step, uses_of, fault_of, unproved_use, first_fault, first_unproved};
+ghost use Rattle.chyp_names.specs.Naming.{in_term, in_reason, in_show, names_of_reason, uses_in, uses_in_goal, uses_in_step, fault_of, unproved_use, first_fault, first_unproved};
 
 use chyp_base::Verdict;
 use chyp_env::{Meaning, Scope};

@@ -45,7 +45,8 @@ fn pass_through(rows: &mut [Row], pivot: usize, beyond: &Row)
     requires long { length beyond.now ≡ length rows.old }
     ensures square { IsSquare rows.new }
     ensures count { length rows.new ≡ length rows.old }
-    ensures more { (i j : ℕ) → relates rows.new i j ≡ (relates rows.old i j || (relates rows.old i pivot && slice_index_or beyond.now j false)) }
+    ensures more { (i j : ℕ) → relates rows.new i j
+        ≡ (relates rows.old i j || (relates rows.old i pivot && slice_index_or beyond.now j false)) }
 {
     for at in 0..rows.len() {
         if rows[at].has(pivot) {

@@ -1,5 +1,5 @@
 // Sets of numbers below a count.
-ghost use Rattle.std.specs.Prelude.{◌≡◌, ◌<◌, ◌||◌, ◌==◌, ◌&&◌, ℕ, Bool, true, false, length, slice_index_or, count_by, IfOk};
+ghost use Rattle.std.specs.Prelude.{◌≡◌, ◌<◌, ◌||◌, ◌==◌, ℕ, Bool, true, false, length, slice_index_or, count_by, IfOk};
 
 use chyp_base::NoMemory;
 use std::alloc::Global;

@@ -39,4 +39,5 @@ pub bind_name-requires-clause-closed : goal.bind_name-requires-clause-closed
 bind_name-requires-clause-closed c =
     sense-fits c.args.module.now c.args.chunk.now c.args.env.now (imported_of c.args.import.now) (option_copied c.args.body)
     c.args.verdict.now c.in-Some-unbound.name.now c.requires.outcome c.in-Some-unbound.ensures.name c.args.index
-    (sense_of c.in_ok-meaning.meaning) c.keyword.result c.terms.result.now c.keyword.ensures c.terms.ensures (c.in_ok-meaning.ensures ∙ c.in_ok-terms.ensures.same c.keyword.result) c.closed.ensures c.named.ensures
+    (sense_of c.in_ok-meaning.meaning) c.keyword.result c.terms.result.now c.keyword.ensures c.terms.ensures
+    (c.in_ok-meaning.ensures ∙ c.in_ok-terms.ensures.same c.keyword.result) c.closed.ensures c.named.ensures

@@ -1,6 +1,5 @@
-use Rattle.std.proofs.Common.{[], ◌∷◌}
-use Rattle.std.proofs.lemmas.Result.{err_from_is_err_and}
-use Rattle.chyp_names.proofs.Alike.{one_agrees, one_disagrees, one_small, one_term}
+use Rattle.std.proofs.Common.{[]}
+use Rattle.chyp_names.proofs.Alike.{one_small}
 use Rattle.chyp_names.proofs.terms.with_goal.Goals as goal
 
 pub other-requires : goal.other-requires
