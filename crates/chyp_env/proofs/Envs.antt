@@ -1,5 +1,5 @@
 -- The entries of an environment, and the bindings that they are.
-use Rattle.std.proofs.Common.{◌≡◌, ℕ, Bool, true, false, cond, List, [], ◌∷◌, ◌++◌, Option, None, Some, refl, sym, ap, subst, ◌∙◌, Vec, Global, All, map, true≢false, is_some, IsTrue, Bor, IfSome, IfNone}
+use Rattle.std.proofs.Common.{◌≡◌, ℕ, Bool, true, false, cond, List, [], ◌∷◌, ◌++◌, Option, None, Some, refl, sym, ap, subst, ◌∙◌, All, map, true≢false, is_some, IsTrue, Bor, IfSome, IfNone}
 use Rattle.std.proofs.lemmas.List.{map-append}
 use Rattle.std.proofs.lemmas.List.Elements.{All-head, All-tail, All-map, All-push}
 use Rattle.std.specs.Cmp.Lexicographic.{nat_list_eq_equiv}
@@ -46,34 +46,34 @@ distinct-push (b ∷ env) binding h none = go (bytes_eq binding.name b.name) ref
 -- pairs of a name with what an entry is found in
 module _ {R : Type 0} (entry_in : R → Entry) where
   abbrev pub Pairs : Type 0
-  Pairs = List (Vec ℕ Global × R)
+  Pairs = List (List ℕ × R)
 
-  abbrev pub binding_in : Vec ℕ Global × R → Binding
+  abbrev pub binding_in : List ℕ × R → Binding
   binding_in pair = entry_of (entry_in pair.1)
 
   abbrev pub AreKept : Pairs → Type 0
-  AreKept pairs = All (λ pair. IsKept pair.0.items (entry_in pair.1)) pairs
+  AreKept pairs = All (λ pair. IsKept pair.0 (entry_in pair.1)) pairs
 
   abbrev pub found : Pairs → List ℕ → Option R
-  found pairs q = lookup (λ name. bytes_eq q name.items) pairs
+  found pairs q = lookup (bytes_eq q) pairs
 
   abbrev binding_kept : Option R → Option Binding
   binding_kept None = None
   binding_kept (Some entry) = Some (entry_of (entry_in entry))
 
-  pub kept_head : (pair : Vec ℕ Global × R) (pairs : Pairs) → AreKept (pair ∷ pairs) → IsKept pair.0.items (entry_in pair.1)
-  kept_head pair pairs kept = All-head (λ (p : Vec ℕ Global × R). IsKept p.0.items (entry_in p.1)) pair pairs kept
+  pub kept_head : (pair : List ℕ × R) (pairs : Pairs) → AreKept (pair ∷ pairs) → IsKept pair.0 (entry_in pair.1)
+  kept_head pair pairs kept = All-head (λ (p : List ℕ × R). IsKept p.0 (entry_in p.1)) pair pairs kept
 
-  pub kept_tail : (pair : Vec ℕ Global × R) (pairs : Pairs) → AreKept (pair ∷ pairs) → AreKept pairs
-  kept_tail pair pairs kept = All-tail (λ (p : Vec ℕ Global × R). IsKept p.0.items (entry_in p.1)) pair pairs kept
+  pub kept_tail : (pair : List ℕ × R) (pairs : Pairs) → AreKept (pair ∷ pairs) → AreKept pairs
+  kept_tail pair pairs kept = All-tail (λ (p : List ℕ × R). IsKept p.0 (entry_in p.1)) pair pairs kept
 
   -- a look-up of a key is that of the name
   found_binding : (pairs : Pairs) (q : List ℕ) → AreKept pairs → binding_of (map binding_in pairs) q ≡ binding_kept (found pairs q)
   found_binding [] q kept = refl
   found_binding (pair ∷ pairs) q kept =
-      go (bytes_eq q pair.0.items) (ap (bytes_eq q) (kept_head pair pairs kept).named) refl (found_binding pairs q (kept_tail pair pairs kept))
+      go (bytes_eq q pair.0) (ap (bytes_eq q) (kept_head pair pairs kept).named) refl (found_binding pairs q (kept_tail pair pairs kept))
     where
-      go : (b : Bool) → bytes_eq q (entry_in pair.1).name ≡ bytes_eq q pair.0.items → bytes_eq q pair.0.items ≡ b
+      go : (b : Bool) → bytes_eq q (entry_in pair.1).name ≡ bytes_eq q pair.0 → bytes_eq q pair.0 ≡ b
           → binding_of (map binding_in pairs) q ≡ binding_kept (found pairs q)
           → binding_of (map binding_in (pair ∷ pairs)) q ≡ binding_kept (found (pair ∷ pairs) q)
       go true same e rest = rw (same, e) refl
@@ -102,12 +102,12 @@ module _ {R : Type 0} (entry_in : R → Entry) where
   })
 
   -- a pair for a name that is not bound goes last
-  pub inserted : (pairs after : Pairs) (env : List Binding) (name : Vec ℕ Global) (kept : R) → AreKept pairs → map binding_in pairs ≡ env → HasDistinctNames env
-      → is_bound env name.items ≡ false → IsKept name.items (entry_in kept) → after ≡ insert_entry (λ a b. bytes_eq a.items b.items) pairs name kept
+  pub inserted : (pairs after : Pairs) (env : List Binding) (name : List ℕ) (kept : R) → AreKept pairs → map binding_in pairs ≡ env → HasDistinctNames env
+      → is_bound env name ≡ false → IsKept name (entry_in kept) → after ≡ insert_entry bytes_eq pairs name kept
       → (AreKept after × HasDistinctNames (map binding_in after)) × (map binding_in after ≡ env ++ entry_of (entry_in kept) ∷ [])
   inserted pairs after env name kept all same distinct fresh good is =
-      let P : Vec ℕ Global × R → Type 0 = λ p. IsKept p.0.items (entry_in p.1) in
-      let pushed : after ≡ pairs ++ (name, kept) ∷ [] = is ∙ absent pairs all (ap (λ bs. is_bound bs name.items) same ∙ fresh) in
+      let P : List ℕ × R → Type 0 = λ p. IsKept p.0 (entry_in p.1) in
+      let pushed : after ≡ pairs ++ (name, kept) ∷ [] = is ∙ absent pairs all (ap (λ bs. is_bound bs name) same ∙ fresh) in
       let bindings : map binding_in after ≡ env ++ entry_of (entry_in kept) ∷ [] =
       ap (map binding_in) pushed ∙ map-append binding_in pairs ((name, kept) ∷ []) ∙ ap (λ bs. bs ++ entry_of (entry_in kept) ∷ []) same in (
         (
@@ -117,20 +117,20 @@ module _ {R : Type 0} (entry_in : R → Entry) where
         bindings,
       )
     where
-      absent : (pairs : Pairs) → AreKept pairs → is_bound (map binding_in pairs) name.items ≡ false
-          → insert_entry (λ (a b : Vec ℕ Global). bytes_eq a.items b.items) pairs name kept ≡ pairs ++ (name, kept) ∷ []
+      absent : (pairs : Pairs) → AreKept pairs → is_bound (map binding_in pairs) name ≡ false
+          → insert_entry bytes_eq pairs name kept ≡ pairs ++ (name, kept) ∷ []
       absent [] all none = refl
       absent (pair ∷ pairs) all none =
-          go (bytes_eq name.items pair.0.items) refl (absent pairs (kept_tail pair pairs all))
+          go (bytes_eq name pair.0) refl (absent pairs (kept_tail pair pairs all))
         where
-          go : (c : Bool) → bytes_eq name.items pair.0.items ≡ c
-              → (is_bound (map binding_in pairs) name.items ≡ false → insert_entry (λ (a b : Vec ℕ Global). bytes_eq a.items b.items) pairs name kept ≡ pairs ++ (name, kept) ∷ [])
-              → insert_entry (λ (a b : Vec ℕ Global). bytes_eq a.items b.items) (pair ∷ pairs) name kept ≡ pair ∷ (pairs ++ (name, kept) ∷ [])
+          go : (c : Bool) → bytes_eq name pair.0 ≡ c
+              → (is_bound (map binding_in pairs) name ≡ false → insert_entry bytes_eq pairs name kept ≡ pairs ++ (name, kept) ∷ [])
+              → insert_entry bytes_eq (pair ∷ pairs) name kept ≡ pair ∷ (pairs ++ (name, kept) ∷ [])
           go true e rest = absurd
-              (true≢false (sym (ap (λ c. is_some (cond c (Some (binding_in pair)) (binding_of (map binding_in pairs) name.items))) (ap (bytes_eq name.items) (kept_head pair pairs all).named ∙ e))
+              (true≢false (sym (ap (λ c. is_some (cond c (Some (binding_in pair)) (binding_of (map binding_in pairs) name))) (ap (bytes_eq name) (kept_head pair pairs all).named ∙ e))
               ∙ none))
           go false e rest = rw e (ap (λ ps. pair ∷ ps)
-              (rest (sym (ap (λ c. is_some (cond c (Some (binding_in pair)) (binding_of (map binding_in pairs) name.items))) (ap (bytes_eq name.items) (kept_head pair pairs all).named ∙ e)) ∙ none)))
+              (rest (sym (ap (λ c. is_some (cond c (Some (binding_in pair)) (binding_of (map binding_in pairs) name))) (ap (bytes_eq name) (kept_head pair pairs all).named ∙ e)) ∙ none)))
 
 -- the term that a name stands for which is bound, and one that isn't
 pub bound_term : (scope : Scope) (token : ℕ) (b : Binding) → binding_at scope token ≡ Some b → term_of b.sense ≡ meaning_at scope token

@@ -1,5 +1,5 @@
 -- A loop that goes over the bindings of a module, as an import passes them on.
-use Rattle.std.proofs.Common.{◌≡◌, ℕ, zero, suc, ◌+◌, ◌<◌, ◌≤◌, Bool, true, false, cond, not, List, [], ◌∷◌, ◌++◌, map, length, take, Option, Some, None, slice_get, All, ◌⊎◌, inl, inr, refl, sym, ◌∙◌, ap, ap₂, subst, arith, append-nil, append_assoc, Vec, Global}
+use Rattle.std.proofs.Common.{◌≡◌, ℕ, zero, suc, ◌+◌, ◌<◌, ◌≤◌, Bool, true, false, cond, not, List, [], ◌∷◌, ◌++◌, map, length, take, Option, Some, None, slice_get, All, ◌⊎◌, inl, inr, refl, sym, ◌∙◌, ap, ap₂, subst, arith, append-nil, append_assoc}
 use Rattle.std.specs.Prelude.{Contains, find, fold}
 use Rattle.std.specs.List.{filter}
 use Rattle.std.specs.Option.{option_map}
@@ -129,9 +129,6 @@ nothing-clashes (x ∷ env) bs e = absurd cc
 
 -- ---- entries of two maps
 
-abbrev same_name : Vec ℕ Global → Vec ℕ Global → Bool
-same_name a b = bytes_eq a.items b.items
-
 -- a name stays free behind a binding of another name
 free-behind : (env bs : List Binding) (x b : Binding) → is_bound bs x.name ≡ false → Contains bs b → is_bound env b.name ≡ false → is_bound (env ++ x ∷ []) b.name ≡ false
 free-behind env bs x b alone has free = each-unbound (env ++ x ∷ []) b.name (λ c there same. go c (Contains-append_cases env (x ∷ []) c there) same)
@@ -146,15 +143,15 @@ module _ {R : Type 0} (entry_in : R → Entry) where
   -- entries whose names have none yet go behind the others
   pub appended : (pairs more : Pairs entry_in) → AreKept entry_in pairs → HasDistinctNames (map (binding_in entry_in) pairs) → AreKept entry_in more → HasDistinctNames (map (binding_in entry_in) more)
       → ((b : Binding) → Contains (map (binding_in entry_in) more) b → is_bound (map (binding_in entry_in) pairs) b.name ≡ false)
-      → (AreKept entry_in (insert_all same_name pairs more) × HasDistinctNames (map (binding_in entry_in) (insert_all same_name pairs more)))
-      × (map (binding_in entry_in) (insert_all same_name pairs more) ≡ map (binding_in entry_in) pairs ++ map (binding_in entry_in) more)
+      → (AreKept entry_in (insert_all bytes_eq pairs more) × HasDistinctNames (map (binding_in entry_in) (insert_all bytes_eq pairs more)))
+      × (map (binding_in entry_in) (insert_all bytes_eq pairs more) ≡ map (binding_in entry_in) pairs ++ map (binding_in entry_in) more)
   appended pairs [] kept distinct all apart' free = ((kept, distinct), sym (append-nil (map (binding_in entry_in) pairs)))
   appended pairs (p ∷ more) kept distinct all apart' free =
       let env = map (binding_in entry_in) pairs in
       let x = (binding_in entry_in) p in
       let rest = map (binding_in entry_in) more in
-      let fresh : is_bound env p.0.items ≡ false = subst (λ q. is_bound env q ≡ false) (kept_head entry_in p more all).named (free x (0, omega arith, refl)) in
-      let after = insert_entry same_name pairs p.0 p.1 in
+      let fresh : is_bound env p.0 ≡ false = subst (λ q. is_bound env q ≡ false) (kept_head entry_in p more all).named (free x (0, omega arith, refl)) in
+      let after = insert_entry bytes_eq pairs p.0 p.1 in
       let one = inserted entry_in pairs after env p.0 p.1 kept refl distinct fresh (kept_head entry_in p more all) refl in
       let behind = appended after more one.0.0 one.0.1 (kept_tail entry_in p more all) apart'.1
       (λ b has. subst (λ e. is_bound e b.name ≡ false) (sym one.1) (free-behind env rest x b apart'.0 has (free b (Contains-cons x rest b has)))) in

@@ -1,11 +1,12 @@
 // Entries by their names.
-ghost use Rattle.std.specs.Prelude.{◌≡◌, ◌<◌, [], ◌∷◌, ◌++◌, All, false, length, slice_get, IfSome, IfNone, IfOk, OnOk, OnErr, Some, None};
+ghost use Rattle.std.specs.Prelude.{◌≡◌, ◌<◌, [], ◌∷◌, ◌++◌, All, false, length, slice_get, IfSome, IfNone, OnOk, OnErr, Some, None};
 ghost use Rattle.chyp_env.specs.Entry.{entry_of, sense_of};
 ghost use Rattle.chyp_env.specs.Environment.{binding_of, is_bound};
 ghost use Rattle.chyp_env.specs.Sound.{IsSound, IsSoundSense};
 
 use crate::Entry;
-use chyp_base::NoMemory;
+use crate::spelling::Spelling;
+use chyp_base::{Name, NoMemory};
 use indexmap::IndexMap;
 use std::alloc::Global;
 use std::marker::Model;
@@ -15,7 +16,7 @@ use std::rc::Rc;
 /// other lists. Contracts see them as the list of their bindings, which is sound.
 #[derive(Drop)]
 pub(crate) struct Entries {
-    map: IndexMap<Vec<u8>, Rc<Entry>>,
+    map: IndexMap<Name, Rc<Entry>>,
 }
 
 impl Model for Entries {
@@ -34,7 +35,7 @@ impl Model for Entries {
 
     ghost view = { λ e. each (λ pair. entry_of pair.1.value) e.map.entries };
 
-    ghost invariant = { λ e. All (λ pair. IsKept pair.0.items pair.1.value) e.map.entries
+    ghost invariant = { λ e. All (λ pair. IsKept pair.0 pair.1.value) e.map.entries
         × HasDistinctNames (each (λ pair. entry_of pair.1.value) e.map.entries) };
 }
 
@@ -58,7 +59,7 @@ impl Entries {
         ensures some { IfSome result (λ entry. binding_of self.now name.now ≡ Some (entry_of entry.now)) }
         ensures none { IfNone result (binding_of self.now name.now ≡ None) }
     {
-        match self.map.get(name) {
+        match self.map.get(Spelling { bytes: name }) {
             Some(entry) => Some(entry.as_ref()),
             None => None,
         }
@@ -100,7 +101,7 @@ impl Entries {
         ensures ok { OnOk result (self.new ≡ self.old ++ entry_of entry.value ∷ []) }
         ensures err { OnErr result (self.new ≡ self.old) }
     {
-        let name = key_of(self.allocator(), &entry)?;
+        let name = entry.name.share()?;
         // The name is new, so nothing is dropped; as a call, it takes one step of the proof.
         drop(self.map.insert(name, entry)?);
         Ok(())
@@ -124,11 +125,4 @@ impl Entries {
         self.map.append(&mut further.map)?;
         Ok(())
     }
-}
-
-// The name of an entry, in bytes.
-fn key_of(alloc: Global, entry: &Entry) -> Result<Vec<u8>, NoMemory>
-    ensures { IfOk result (λ key. key.items ≡ entry.now.name) }
-{
-    Ok(Vec::from_slice(alloc, entry.name.as_str().as_bytes())?)
 }

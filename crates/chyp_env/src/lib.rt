@@ -21,6 +21,7 @@ mod origin;
 mod plain_wires;
 mod scope;
 mod sizes;
+mod spelling;
 mod typing;
 
 pub use chunk_view::ChunkView;
