@@ -1,5 +1,5 @@
 // Entries by their names.
-ghost use Rattle.std.specs.Prelude.{◌≡◌, ◌<◌, [], ◌∷◌, ◌++◌, All, false, length, slice_get, IfSome, IfNone, OnOk, OnErr, Some, None};
+ghost use Rattle.std.specs.Prelude.{◌≡◌, ◌<◌, [], ◌∷◌, ◌++◌, All, false, length, slice_get, IfSome, IfNone, IfOk, OnOk, OnErr, Some, None};
 ghost use Rattle.chyp_env.specs.Entry.{entry_of, sense_of};
 ghost use Rattle.chyp_env.specs.Environment.{binding_of, is_bound};
 ghost use Rattle.chyp_env.specs.Sound.{IsSound, IsSoundSense};
@@ -49,6 +49,19 @@ impl Entries {
         }
     }
 
+    /// No entry, with room for so many.
+    ///
+    /// # Errors
+    ///
+    /// `NoMemory` where there is no such room.
+    pub(crate) fn with_room(alloc: Global, count: usize) -> Result<Entries, NoMemory>
+        ensures { IfOk result (λ entries. entries ≡ []) }
+    {
+        Ok(Entries {
+            map: IndexMap::with_capacity(alloc, count)?,
+        })
+    }
+
     /// The allocator that it was made with.
     pub(crate) fn allocator(&self) -> Global {
         *self.map.allocator()
@@ -59,6 +72,10 @@ impl Entries {
         ensures some { IfSome result (λ entry. binding_of self.now name.now ≡ Some (entry_of entry.now)) }
         ensures none { IfNone result (binding_of self.now name.now ≡ None) }
     {
+        // Where nothing is bound, no name needs to be hashed.
+        if self.map.is_empty() {
+            return None;
+        }
         match self.map.get(Spelling { bytes: name }) {
             Some(entry) => Some(entry.as_ref()),
             None => None,

@@ -63,7 +63,7 @@ pub(crate) fn new_entries(
     ensures { IfOk result (λ entries. entries ≡ new_in env.now (all_passed_on (option_copied prefix.entry) imported.now)) }
 {
     imported.sound();
-    let mut entries = Entries::new(env.allocator());
+    let mut entries = Entries::with_room(env.allocator(), imported.count())?;
     for number in 0..imported.count() {
         add(&mut entries, env, imported.shared_entry(number), prefix)?;
     }
