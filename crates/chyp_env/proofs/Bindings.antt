@@ -8,9 +8,9 @@ use Rattle.std.proofs.lemmas.Bool.{false≢true}
 use Rattle.std.proofs.lemmas.Bool.Decides.{Decides-and, Decides-eqb}
 use Rattle.std.proofs.lemmas.Slice.Eq.{bytes_eq-Decides}
 use Rattle.std.proofs.lemmas.List.Elements.{All-contains, All-contains_itself, All-filter, filter_passes, All-map, All-append, Contains-append_cases, Contains-append_left, Contains-append_right}
-use Rattle.chyp_env.specs.Environment.{Binding, binding_of, is_bound}
+use Rattle.chyp_env.specs.Environment.{Binding, Origin, binding_of, is_bound}
 use Rattle.chyp_env.specs.Sound.{HasDistinctNames}
-use Rattle.chyp_env.specs.Import.{prefixed, passed_on, all_passed_on, same_origin, clashes, first_clash, new_in}
+use Rattle.chyp_env.specs.Import.{prefixed, passed_on, all_passed_on, is_origin, same_origin, clashes, first_clash, new_in}
 
 -- ---- lists
 
@@ -159,12 +159,19 @@ not-true : (b : Bool) → not b ≡ false → b ≡ true
 not-true true e = refl
 not-true false e = absurd (false≢true (sym e))
 
-origins-eq : (a b : Binding) → same_origin a b ≡ true → a.origin ≡ b.origin
-origins-eq a b e =
-    let both = (Decides-and (bytes_eq a.origin.0 b.origin.0) (a.origin.1 == b.origin.1) (bytes_eq-Decides a.origin.0 b.origin.0) (Decides-eqb a.origin.1 b.origin.1)).0 e in
-    let first : a.origin.0 ≡ b.origin.0 = both.0 in
-    let second : a.origin.1 ≡ b.origin.1 = both.1 in
-    ap (λ (x : List ℕ). (x, a.origin.1)) first ∙ ap (λ (n : ℕ). (b.origin.0, n)) second
+-- two origins are one, or they aren't
+pub origin-is : (a b : Origin) → is_origin a b ≡ true → a ≡ b
+origin-is a b e =
+    let both = (Decides-and (bytes_eq a.home b.home) (a.number == b.number) (bytes_eq-Decides a.home b.home) (Decides-eqb a.number b.number)).0 e in
+    let homes : a.home ≡ b.home = both.0 in
+    let numbers : a.number ≡ b.number = both.1 in
+    ap (λ (x : List ℕ). record { home = x; number = a.number }) homes ∙ ap (λ (n : ℕ). record { home = b.home; number = n }) numbers
+
+pub origin-differs : (a b : Origin) → is_origin a b ≡ false → ¬ (a ≡ b)
+origin-differs a b e same =
+    let both : (a.home ≡ b.home) × (a.number ≡ b.number) = (ap (λ (o : Origin). o.home) same, ap (λ (o : Origin). o.number) same) in
+    let decided = Decides-and (bytes_eq a.home b.home) (a.number == b.number) (bytes_eq-Decides a.home b.home) (Decides-eqb a.number b.number) in
+    false≢true (sym e ∙ decided.1 both)
 
 -- Where nothing clashes, each binding of the module has its place behind an import: under its name, or passed over for one of
 -- the same origin.
@@ -191,4 +198,4 @@ import-covers env bs prefix none b has = go (binding_of env (prefixed prefix b.n
         let found = binding-found env (prefixed prefix b.name) old e in
         let fits : clashes env (passed_on prefix b) ≡ false = find-none (clashes env) all (passed_on prefix b) (no-name _ none) at in
         let same : same_origin old (passed_on prefix b) ≡ true = not-true _ (sym (ap (λ o. option_map_or (λ (x : Binding). not (same_origin x (passed_on prefix b))) o false) e) ∙ fits) in
-        (old, Contains-append_left env (new_in env all) old found.0, origins-eq old (passed_on prefix b) same, inr found.0)
+        (old, Contains-append_left env (new_in env all) old found.0, origin-is old.origin b.origin same, inr found.0)

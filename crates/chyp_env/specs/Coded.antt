@@ -107,7 +107,8 @@ sense_code =
 abbrev pub binding_code : Coded Binding
 binding_code =
     code_by (List ℕ × ((List ℕ × ℕ) × Sense)) (coded× (coded_list coded_ℕ) (coded× (coded× (coded_list coded_ℕ) coded_ℕ) sense_code))
-    (λ b. (b.name, (b.origin, b.sense))) (λ p. record { name = p.0; origin = p.1.0; sense = p.1.1 }) (λ _. refl)
+    (λ b. (b.name, ((b.origin.home, b.origin.number), b.sense)))
+    (λ p. record { name = p.0; origin = record { home = p.1.0.0; number = p.1.0.1 }; sense = p.1.1 }) (λ _. refl)
 
 -- so are words
 abbrev pub word_code : Coded Word

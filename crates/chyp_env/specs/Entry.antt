@@ -15,4 +15,8 @@ sense_of Broken = broken
 
 -- the binding that an entry is
 abbrev pub entry_of : Entry → Binding
-entry_of entry = record { name = entry.name; origin = (entry.origin.module, entry.origin.index); sense = sense_of entry.meaning }
+entry_of entry = record {
+  name = entry.name;
+  origin = record { home = entry.origin.module; number = entry.origin.index };
+  sense = sense_of entry.meaning;
+}

@@ -13,10 +13,15 @@ pub data Sense : Type 0 where
   unproved : Sense
   broken : Sense
 
--- a name, the statement that it comes from, by its module and its number there, and what the name stands for
+-- the statement that a name comes from: the name of its module, empty for the main text, and its number there
+pub record Origin : Type 0 where
+  pub home : List ℕ
+  pub number : ℕ
+
+-- a name, the statement that it comes from, and what the name stands for
 pub record Binding : Type 0 where
   pub name : List ℕ
-  pub origin : List ℕ × ℕ
+  pub origin : Origin
   pub sense : Sense
 
 -- the binding of a name, None where it has none

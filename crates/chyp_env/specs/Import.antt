@@ -3,7 +3,7 @@ use Rattle.std.specs.Prelude.{◌≡◌, ℕ, Bool, false, not, ◌&&◌, ◌==�
 use Rattle.std.specs.List.{filter}
 use Rattle.std.specs.Option.{option_map_or}
 use Rattle.std.specs.Str.{bytes_eq}
-use Rattle.chyp_env.specs.Environment.{Binding, binding_of, is_bound}
+use Rattle.chyp_env.specs.Environment.{Binding, Origin, binding_of, is_bound}
 use Rattle.chyp_env.specs.Site.{Imported, there}
 
 -- a name as an import binds it: behind the prefix and a dot, if there is a prefix
@@ -18,9 +18,13 @@ passed_on prefix binding = record { name = prefixed prefix binding.name; origin 
 abbrev pub all_passed_on : Option (List ℕ) → List Binding → List Binding
 all_passed_on prefix bindings = map (passed_on prefix) bindings
 
+-- the origins are one statement
+abbrev pub is_origin : Origin → Origin → Bool
+is_origin a b = bytes_eq a.home b.home && (a.number == b.number)
+
 -- two bindings come from one statement
 abbrev pub same_origin : Binding → Binding → Bool
-same_origin a b = bytes_eq a.origin.0 b.origin.0 && (a.origin.1 == b.origin.1)
+same_origin a b = is_origin a.origin b.origin
 
 -- the name is bound already, and to another statement
 abbrev pub clashes : List Binding → Binding → Bool

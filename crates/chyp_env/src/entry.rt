@@ -41,7 +41,7 @@ impl Entry {
     /// `NoMemory` where a part can't be shared once more.
     pub fn renamed(&self, name: Name) -> Result<Entry, NoMemory>
         ensures { IfOk result (λ entry. entry_of entry
-            ≡ record { name = name; origin = (self.now.origin.module, self.now.origin.index); sense = sense_of self.now.meaning }) }
+            ≡ record { name = name; origin = (entry_of self.now).origin; sense = sense_of self.now.meaning }) }
     {
         Ok(Entry {
             name,

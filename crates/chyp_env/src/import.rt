@@ -41,7 +41,7 @@ pub fn first_clash(
 // Whether the name is bound already, and to another statement than this.
 fn clashes(env: &Env, name: &Name, origin: &Origin) -> bool
     ensures { (sense : Sense) → result ≡ clashes env.now
-        (record { name = name.now; origin = (origin.now.module, origin.now.index); sense = sense }) }
+        (record { name = name.now; origin = record { home = origin.now.module; number = origin.now.index }; sense = sense }) }
 {
     match env.lookup(name.as_str().as_bytes()) {
         Some(entry) => entry.origin != *origin,

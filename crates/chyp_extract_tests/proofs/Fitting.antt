@@ -8,7 +8,7 @@ use Rattle.chyp_lex.specs.Names.{IsNameText, NamesAreText, is_name}
 use Rattle.chyp_lex.specs.Tokens.{token_text}
 use Rattle.chyp_term.specs.Morphism.{Morphism}
 use Rattle.chyp_env.specs.Closed.{FitsBehind, HasBoundGenerators, HasBoundSense, IsClosed}
-use Rattle.chyp_env.specs.Environment.{Binding, Sense, abbreviation, binding_of, generator}
+use Rattle.chyp_env.specs.Environment.{Binding, Origin, Sense, abbreviation, binding_of, generator}
 use Rattle.chyp_env.specs.Sound.{IsSound, IsSoundSense}
 use Rattle.chyp_env.proofs.Bindings.{binding-found}
 use Rattle.chyp_env.proofs.Closed.{covers-append, sense-covered}
@@ -28,7 +28,7 @@ is-name text (x ∷ tokens) token names first start len name =
     subst IsNameText all named
 
 -- a generator fits behind all names, under a name
-pub generator-fits : (env : List Binding) (name : List ℕ) (origin : List ℕ × ℕ) (n : List ℕ) (a b : List Sort) → IsNameText name
+pub generator-fits : (env : List Binding) (name : List ℕ) (origin : Origin) (n : List ℕ) (a b : List Sort) → IsNameText name
     → FitsBehind env (record { name = name; origin = origin; sense = generator n a b })
 generator-fits env name origin n a b named =
     let mine : Binding = record { name = name; origin = origin; sense = generator n a b } in

@@ -1,36 +1,19 @@
 -- What a statement adds to the names that are declared is what it binds behind those that are bound.
-use Rattle.std.proofs.Common.{◌≡◌, ℕ, Bool, true, false, cond, not, ◌&&◌, List, [], ◌∷◌, ◌++◌, Option, Some, None, ◌⊎◌, inl, inr, refl, sym, ◌∙◌, ap, subst, arith}
-use Rattle.std.specs.Prelude.{Contains, find, is_none, is_some, option_map, ◌==◌}
+use Rattle.std.proofs.Common.{◌≡◌, ℕ, Bool, true, false, cond, not, List, [], ◌∷◌, ◌++◌, Option, Some, None, ◌⊎◌, inl, inr, refl, sym, ◌∙◌, ap, subst, arith}
+use Rattle.std.specs.Prelude.{Contains, find, is_none, is_some, option_map}
 use Rattle.std.specs.List.{filter}
 use Rattle.std.specs.Option.{option_map_or}
 use Rattle.std.specs.Str.{bytes_eq}
 use Rattle.std.proofs.lemmas.Bool.{false≢true}
-use Rattle.std.proofs.lemmas.Bool.Decides.{Decides-and, Decides-eqb}
 use Rattle.std.proofs.lemmas.List.{append-nil, map-append}
-use Rattle.std.proofs.lemmas.Slice.Eq.{bytes_eq-Decides}
-use Rattle.chyp_env.specs.Environment.{Binding, Sense, binding_of, is_bound}
-use Rattle.chyp_env.specs.Import.{all_passed_on, clashes, first_clash, new_in, prefixed, same_origin}
-use Rattle.chyp_env.proofs.Bindings.{Contains-cons, Contains-from_cons, Contains-map}
-use Rattle.chyp_verdicts.specs.Standing.{Origin}
+use Rattle.chyp_env.specs.Environment.{Binding, Sense, binding_of, is_bound, Origin}
+use Rattle.chyp_env.specs.Import.{all_passed_on, clashes, first_clash, is_origin, new_in, prefixed, same_origin}
+use Rattle.chyp_env.proofs.Bindings.{Contains-cons, Contains-from_cons, Contains-map, origin-differs, origin-is}
 use Rattle.chyp_verdicts.proofs.OneVerdict.{none-some, some-once}
 use Rattle.chyp_modules.specs.Declares.{Adds, Clashes, Declaration, new_ones, none, offered_by, origin_of}
 use Rattle.chyp_modules.specs.Laws.{declarations_of}
 
 -- ---- origins
-
--- two origins are one, or they aren't
-abbrev pub is_origin : Origin → Origin → Bool
-is_origin a b = bytes_eq a.0 b.0 && (a.1 == b.1)
-
-pub origin-is : (a b : Origin) → is_origin a b ≡ true → a ≡ b
-origin-is a b e =
-    let both = (Decides-and (bytes_eq a.0 b.0) (a.1 == b.1) (bytes_eq-Decides a.0 b.0) (Decides-eqb a.1 b.1)).0 e in
-    ap (λ (x : List ℕ). (x, a.1)) both.0 ∙ ap (λ (n : ℕ). (b.0, n)) both.1
-
-pub origin-differs : (a b : Origin) → is_origin a b ≡ false → ¬ (a ≡ b)
-origin-differs a b e same =
-    let both : (a.0 ≡ b.0) × (a.1 ≡ b.1) = (ap (λ (o : Origin). o.0) same, ap (λ (o : Origin). o.1) same) in
-    false≢true (sym e ∙ (Decides-and (bytes_eq a.0 b.0) (a.1 == b.1) (bytes_eq-Decides a.0 b.0) (Decides-eqb a.1 b.1)).1 both)
 
 -- a name comes from the statement that its binding comes from
 pub origin-bound : (env : List Binding) (name : List ℕ) → origin_of (declarations_of env) name ≡ option_map (λ (b : Binding). b.origin) (binding_of env name)

@@ -92,7 +92,8 @@ mutual
       found m (module-agrees one other name whole statements mine.here f) (λ c. r (reaches-agreed one other name name mine c))
       (makes-agrees one other name (length statements) env mine k)
 
-gets-agrees : (one other : Library) (name : List ℕ) (number : ℕ) (v : Verdict) → AgreeFrom one other name → Gets (standing one) (name, number) v → Gets (standing other) (name, number) v
+gets-agrees : (one other : Library) (name : List ℕ) (number : ℕ) (v : Verdict) → AgreeFrom one other name
+    → Gets (standing one) (record { home = name; number = number }) v → Gets (standing other) (record { home = name; number = number }) v
 gets-agrees one other name number v agree g = record { site = g.site; stands = stands-agrees one other name number g.site agree g.stands; judged = g.judged }
 
 -- the statements of the module get the same verdicts in both

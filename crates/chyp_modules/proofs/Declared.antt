@@ -7,13 +7,12 @@ use Rattle.chyp_syntax.specs.Heading.{declared_name}
 use Rattle.chyp_syntax.specs.Sentence.{IsSentence}
 use Rattle.chyp_syntax.specs.Statement.{inclusion}
 use Rattle.chyp_syntax.specs.Words.{Word, bytes_at}
-use Rattle.chyp_env.specs.Environment.{Binding, is_bound}
+use Rattle.chyp_env.specs.Environment.{Binding, is_bound, Origin}
 use Rattle.chyp_env.specs.Import.{all_passed_on, first_clash}
 use Rattle.chyp_env.specs.Site.{Imported, Site, absent, nothing as alone, on_cycle, there}
 use Rattle.chyp_names.specs.Binding.{Binds, TakesIn, again, anew, imports, nothing}
 use Rattle.chyp_names.specs.Elaboration.{prefix_at}
 use Rattle.chyp_verdicts.specs.Judged.{IsJudged}
-use Rattle.chyp_verdicts.specs.Standing.{Origin}
 use Rattle.chyp_verdicts.proofs.Known.{Known}
 use Rattle.chyp_verdicts.proofs.OneBinding.{imports-nothing}
 use Rattle.chyp_verdicts.proofs.OneVerdict.{none-some, some-once}
@@ -51,17 +50,17 @@ one-there : (env end : List Binding) → there env ≡ there end → env ≡ end
 one-there env end e = cc
 
 -- what the statement binds is what it adds of them
-binds-adds : Known → (s : Site) (number : ℕ) (v : Verdict) (next : List Binding) (offered : List Declaration) → AreOffered (s.home, number) s.scope.words s.imported offered
+binds-adds : Known → (s : Site) (number : ℕ) (v : Verdict) (next : List Binding) (offered : List Declaration) → AreOffered (record { home = s.home; number = number }) s.scope.words s.imported offered
     → IsJudged s v → Binds s number v next → Adds (declarations_of s.scope.env) offered (declarations_of next)
 binds-adds known s number v next offered (own {name} e d) j (nothing f o) = absurd (none-some _ name f e)
 binds-adds known s number v next offered (own {name} e d) j (again {name = bound} f b) =
     let same = some-once _ bound name f e in
     subst (λ o. Adds (declarations_of s.scope.env) o (declarations_of s.scope.env)) (sym d)
-    (adds-again s.scope.env name (s.home, number) (subst (λ n. is_bound s.scope.env n ≡ true) same b))
+    (adds-again s.scope.env name (record { home = s.home; number = number }) (subst (λ n. is_bound s.scope.env n ≡ true) same b))
 binds-adds known s number v next offered (own {name} e d) j (anew {name = bound} {sense} f b x) =
     let same = some-once _ bound name f e in
-    subst (λ o. Adds (declarations_of s.scope.env) o (declarations_of (s.scope.env ++ record { name = bound; origin = (s.home, number); sense = sense } ∷ [])))
-    (ap (λ (n : List ℕ). record { name = n; origin = (s.home, number) } ∷ []) same ∙ sym d) (adds-anew s.scope.env bound (s.home, number) sense b)
+    subst (λ o. Adds (declarations_of s.scope.env) o (declarations_of (s.scope.env ++ record { name = bound; origin = record { home = s.home; number = number }; sense = sense } ∷ [])))
+    (ap (λ (n : List ℕ). record { name = n; origin = record { home = s.home; number = number } } ∷ []) same ∙ sym d) (adds-anew s.scope.env bound (record { home = s.home; number = number }) sense b)
 binds-adds known s number v next offered (own {name} e d) j (imports {word} {as_word} f t i) = absurd (imports-nothing s word as_word name t e)
 binds-adds known s number v next offered (nothing_at_all e n d) j (nothing f o) =
     subst (λ x. Adds (declarations_of s.scope.env) x (declarations_of s.scope.env)) (sym d) (adds-nothing (declarations_of s.scope.env))
@@ -106,21 +105,21 @@ record Behind (library : Library) (name : List ℕ) (number : ℕ) (s : Site) : 
   is_module : IsModule library name text statements
   here : slice_get statements number ≡ Some s.scope.words
   front : Declares library name number (declarations_of s.scope.env)
-  offer : declared_name s.scope.words ≡ None → SomeOffer library (name, number) s.scope.words s.imported
+  offer : declared_name s.scope.words ≡ None → SomeOffer library (record { home = name; number = number }) s.scope.words s.imported
 
-some-offer : (library : Library) (name : List ℕ) (number : ℕ) (s : Site) → Behind library name number s → SomeOffer library (name, number) s.scope.words s.imported
+some-offer : (library : Library) (name : List ℕ) (number : ℕ) (s : Site) → Behind library name number s → SomeOffer library (record { home = name; number = number }) s.scope.words s.imported
 some-offer library name number s b = go (declared_name s.scope.words) refl
   where
-    go : (o : Option (List ℕ)) → declared_name s.scope.words ≡ o → SomeOffer library (name, number) s.scope.words s.imported
+    go : (o : Option (List ℕ)) → declared_name s.scope.words ≡ o → SomeOffer library (record { home = name; number = number }) s.scope.words s.imported
     go None e = b.offer e
-    go (Some own_name) e = record { offered = record { name = own_name; origin = (name, number) } ∷ []; offers = its_name e; are = own e refl }
+    go (Some own_name) e = record { offered = record { name = own_name; origin = record { home = name; number = number } } ∷ []; offers = its_name e; are = own e refl }
 
 declare-next : (library : Library) → Known → (name : List ℕ) (number : ℕ) (s : Site) (v : Verdict) (next : List Binding) → Behind library name number s → IsJudged s v
     → Binds s number v next → Declares library name (suc number) (declarations_of next)
 declare-next library known name number s v next b j x =
     let some = some-offer library name number s b in
-    let are : AreOffered (s.home, number) s.scope.words s.imported some.offered =
-    subst (λ h. AreOffered (h, number) s.scope.words s.imported some.offered) (sym b.home) some.are in
+    let are : AreOffered (record { home = s.home; number = number }) s.scope.words s.imported some.offered =
+    subst (λ h. AreOffered (record { home = h; number = number }) s.scope.words s.imported some.offered) (sym b.home) some.are in
     one_more b.is_module b.here b.front some.offers (binds-adds known s number v next some.offered are j x)
 
 mutual
@@ -138,7 +137,7 @@ mutual
     is_module = m;
     here = e;
     front = makes-declare library known name number s.scope.env k;
-    offer = λ free. finds-declare library known (name, number) s.scope.words s.imported free f;
+    offer = λ free. finds-declare library known (record { home = name; number = number }) s.scope.words s.imported free f;
   }
 
   finds-declare : (library : Library) → Known → (origin : Origin) (words : List Word) (i : Imported) → declared_name words ≡ None → Finds library words i
@@ -176,7 +175,7 @@ import-nameless words name i = go (declared_name words) refl
 
 bind-next : (library : Library) → Known → (name : List ℕ) (number : ℕ) (text : List ℕ) (statements : List (List Word)) (words : List Word)
     → IsModule library name text statements → slice_get statements number ≡ Some words
-    → (front offered next : List Declaration) → AreBound library name number front → SomeFound library (name, number) words offered → Adds front offered next
+    → (front offered next : List Declaration) → AreBound library name number front → SomeFound library (record { home = name; number = number }) words offered → Adds front offered next
     → AreBound library name (suc number) next
 bind-next library known name number text statements words m at front offered next before f a =
     let s : Site = record { scope = record { words = words; env = before.env }; home = name; imported = f.imported } in
@@ -197,7 +196,7 @@ mutual
   declared-bound library known name number declarations (at_start m) = record { env = []; makes = starts m; names = refl }
   declared-bound library known name number declarations (one_more {text} {number = k} {statements} {words} {front} {offered} m at d o a) =
       bind-next library known name k text statements words m at front offered declarations (declared-bound library known name k front d)
-      (offers-found library known (name, k) words offered o) a
+      (offers-found library known (record { home = name; number = k }) words offered o) a
 
   offers-found : (library : Library) → Known → (origin : Origin) (words : List Word) (offered : List Declaration) → Offers library origin words offered
       → SomeFound library origin words offered

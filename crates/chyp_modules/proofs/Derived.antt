@@ -36,4 +36,5 @@ mutual
 -- a rewrite that is proved is derived from the rules that are permitted to it
 pub proved-derived : Known → ProvedRewritesAreDerived
 proved-derived known library home number site st j first last is =
-    rewrite-derived (standing library) known (home, number) site st (stands-sound library known home number site st).0 (stands-derived library known home number site st).0 j first last is
+    rewrite-derived (standing library) known (record { home = home; number = number }) site st (stands-sound library known home number site st).0
+    (stands-derived library known home number site st).0 j first last is

@@ -8,10 +8,10 @@ use Rattle.chyp_env.specs.Import.{all_passed_on, first_clash, new_in, prefixed}
 use Rattle.chyp_env.proofs.Bindings.{Contains-from_filter, each-unbound, unbound-each}
 
 abbrev monoid : List Binding
-monoid = record { name = codes "m"; origin = (codes "monoid", 0); sense = broken } ∷ []
+monoid = record { name = codes "m"; origin = record { home = codes "monoid"; number = 0 }; sense = broken } ∷ []
 
 abbrev other : List Binding
-other = record { name = codes "m"; origin = (codes "e", 0); sense = broken } ∷ []
+other = record { name = codes "m"; origin = record { home = codes "e"; number = 0 }; sense = broken } ∷ []
 
 -- what comes by two ways from one module is passed over the second time
 diamond-fits : first_clash monoid (all_passed_on None monoid) ≡ None

@@ -4,11 +4,10 @@ use Rattle.std.specs.Prelude.{slice_index_or}
 use Rattle.std.proofs.lemmas.List.Elements.{All-append, All-cons, All-contains, All-nil}
 use Rattle.chyp_base.specs.declared.verdict.Verdict.{Verdict}
 use Rattle.chyp_syntax.specs.Words.{Word}
-use Rattle.chyp_env.specs.Environment.{Binding}
+use Rattle.chyp_env.specs.Environment.{Binding, Origin}
 use Rattle.chyp_env.specs.Site.{Imported, Site, there}
 use Rattle.chyp_names.specs.Binding.{Binds, again, anew, imports, nothing}
 use Rattle.chyp_names.specs.Elaboration.{prefix_at}
-use Rattle.chyp_verdicts.specs.Standing.{Origin}
 use Rattle.chyp_env.proofs.Bindings.{import-all}
 use Rattle.chyp_verdicts.proofs.Explaining.{AreInOrder, explained}
 use Rattle.chyp_verdicts.proofs.Known.{Known}
@@ -29,11 +28,11 @@ reaches-join library a b c (by_way_of {next} l r) m = by_way_of l (reaches-join 
 -- the binding is that of one of the first statements of the module, or its module is reached and doesn't reach itself
 abbrev IsFrom : Library → List ℕ → ℕ → Binding → Type 0
 IsFrom library name number b =
-    ((b.origin.0 ≡ name) × (b.origin.1 < number)) ⊎ (Reaches library name b.origin.0 × ¬ Reaches library b.origin.0 b.origin.0)
+    ((b.origin.home ≡ name) × (b.origin.number < number)) ⊎ (Reaches library name b.origin.home × ¬ Reaches library b.origin.home b.origin.home)
 
 -- its module is reached from a statement, and doesn't reach itself
 abbrev IsBelow : Library → List ℕ → Binding → Type 0
-IsBelow library name b = Reaches library name b.origin.0 × ¬ Reaches library b.origin.0 b.origin.0
+IsBelow library name b = Reaches library name b.origin.home × ¬ Reaches library b.origin.home b.origin.home
 
 abbrev AreImportsBelow : Library → List ℕ → Imported → Type 0
 AreImportsBelow library name (there env) = All (IsBelow library name) env
@@ -57,7 +56,7 @@ binds-from : (library : Library) (name : List ℕ) (n : ℕ) (s : Site) → s.ho
 binds-from library name n s home all i v next (nothing e o) = all-later library name n s.scope.env all
 binds-from library name n s home all i v next (again e f) = all-later library name n s.scope.env all
 binds-from library name n s home all i v next (anew {name = declared} {sense} e f x) =
-    let b : Binding = record { name = declared; origin = (s.home, n); sense = sense } in
+    let b : Binding = record { name = declared; origin = record { home = s.home; number = n }; sense = sense } in
     All-append (IsFrom library name (suc n)) s.scope.env (b ∷ []) (all-later library name n s.scope.env all)
     (All-cons (IsFrom library name (suc n)) b [] (inl (home, omega arith)) (All-nil _))
 binds-from library name n s home all i v next (imports {as_word} {env} f t e) =
@@ -92,29 +91,29 @@ mutual
 
 -- ---- the order of statements
 
-from-before : (library : Library) (o : Origin) (b : Binding) → IsFrom library o.0 o.1 b → StandsBefore library b.origin o
+from-before : (library : Library) (o : Origin) (b : Binding) → IsFrom library o.home o.number b → StandsBefore library b.origin o
 from-before library o b (inl h) = inl h
-from-before library o b (inr h) = inr (h.0, λ back. h.1 (reaches-join library b.origin.0 o.0 b.origin.0 back h.0))
+from-before library o b (inr h) = inr (h.0, λ back. h.1 (reaches-join library b.origin.home o.home b.origin.home back h.0))
 
 before-chain : (library : Library) (o p q : Origin) → StandsBefore library o p → StandsBefore library p q → StandsBefore library o q
 before-chain library o p q (inl a) (inl b) = inl (a.0 ∙ b.0, omega (arith, a.1, b.1))
 before-chain library o p q (inl a) (inr b) =
-    inr (subst (Reaches library q.0) (sym a.0) b.0, λ r. b.1 (subst (λ (x : List ℕ). Reaches library x q.0) a.0 r))
+    inr (subst (Reaches library q.home) (sym a.0) b.0, λ r. b.1 (subst (λ (x : List ℕ). Reaches library x q.home) a.0 r))
 before-chain library o p q (inr a) (inl b) =
-    inr (subst (λ (x : List ℕ). Reaches library x o.0) b.0 a.0, λ r. a.1 (subst (Reaches library o.0) (sym b.0) r))
+    inr (subst (λ (x : List ℕ). Reaches library x o.home) b.0 a.0, λ r. a.1 (subst (Reaches library o.home) (sym b.0) r))
 before-chain library o p q (inr a) (inr b) =
-    inr (reaches-join library q.0 p.0 o.0 b.0 a.0, λ r. a.1 (reaches-join library o.0 q.0 p.0 r b.0))
+    inr (reaches-join library q.home p.home o.home b.0 a.0, λ r. a.1 (reaches-join library o.home q.home p.home r b.0))
 
 in-order : Known → (library : Library) → AreInOrder (standing library) (StandsBefore library)
 in-order known library = record {
-  sound = λ o s st. (stands-sound library known o.0 o.1 s st).0;
-  laws = λ o s st. (stands-derived library known o.0 o.1 s st).0;
-  one = λ o s t a b. stands-unique library known o.0 o.1 s t a b;
-  cited = λ o s b st has. from-before library o b (All-contains (IsFrom library o.0 o.1) s.scope.env b (stands-from library o.0 o.1 s st).0 has);
+  sound = λ o s st. (stands-sound library known o.home o.number s st).0;
+  laws = λ o s st. (stands-derived library known o.home o.number s st).0;
+  one = λ o s t a b. stands-unique library known o.home o.number s t a b;
+  cited = λ o s b st has. from-before library o b (All-contains (IsFrom library o.home o.number) s.scope.env b (stands-from library o.home o.number s st).0 has);
   chain = before-chain library;
 }
 
 -- what the verdicts of a module's statements say is so
 pub verdicts-explained : Known → VerdictsAreExplained
 verdicts-explained known library name verdicts are number verdict at =
-    explained known (standing library) (StandsBefore library) (in-order known library) (name, number) verdict (are.each number verdict at)
+    explained known (standing library) (StandsBefore library) (in-order known library) (record { home = name; number = number }) verdict (are.each number verdict at)

@@ -29,7 +29,7 @@ binds-bound : (library : Library) → Known → (s : Site) (n : ℕ) (v : Verdic
 binds-bound library known s n v next meant im bound ib j (nothing e o) = bound
 binds-bound library known s n v next meant im bound ib j (again e f) = bound
 binds-bound library known s n v next meant im bound ib j (anew {name} {sense} e f x) =
-    bound-push s.scope.env (record { name = name; origin = (s.home, n); sense = sense }) bound (sense-bound s bound v sense x name (s.home, n))
+    bound-push s.scope.env (record { name = name; origin = record { home = s.home; number = n }; sense = sense }) bound (sense-bound s bound v sense x name (record { home = s.home; number = n }))
 binds-bound library known s n v next meant im bound ib j (imports {word} {as_word} {env} f t i) =
     let theirs : AreMeant library env = subst (IsMeantImport library) i im in
     bound-import s.scope.env env (prefix_at s.scope as_word) bound (subst IsBoundImport i ib)

@@ -33,9 +33,9 @@ binds-meant library home n s st here k v next j (nothing e o) = here
 binds-meant library home n s st here k v next j (again e f) = here
 binds-meant library home n s st here k v next j (anew {name} {sense} e f x) =
     let P : Binding → Type 0 = λ b. Means (standing library) b.origin b.sense in
-    let b : Binding = record { name = name; origin = (s.home, n); sense = sense } in
+    let b : Binding = record { name = name; origin = record { home = s.home; number = n }; sense = sense } in
     let st' : Stands library s.home n s = subst (λ h. Stands library h n s) (sym (home-is library home n s st)) st in
-    let m : Means (standing library) (s.home, n) sense = record { site = s; verdict = v; stands = st'; judged = j; stands_for = x } in
+    let m : Means (standing library) (record { home = s.home; number = n }) sense = record { site = s; verdict = v; stands = st'; judged = j; stands_for = x } in
     All-append P s.scope.env (b ∷ []) here (All-cons P b [] m (All-nil _))
 binds-meant library home n s st here k v next j (imports {as_word} {env} f t i) =
     import-all (λ b. Means (standing library) b.origin b.sense) s.scope.env env (prefix_at s.scope as_word) (λ b x. x) here (subst (IsMeantImport library) i k)

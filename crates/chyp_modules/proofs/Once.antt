@@ -3,7 +3,7 @@ use Rattle.std.proofs.Common.{◌≡◌, ℕ, List, length, Option, slice_get, r
 use Rattle.chyp_syntax.specs.Chunk.{AreChunks}
 use Rattle.chyp_syntax.specs.Statement.{inclusion}
 use Rattle.chyp_syntax.specs.Words.{Word, bytes_at}
-use Rattle.chyp_env.specs.Environment.{Sense, Binding}
+use Rattle.chyp_env.specs.Environment.{Sense, Binding, Origin}
 use Rattle.chyp_env.specs.Site.{Imported, there, Site}
 use Rattle.chyp_names.specs.Binding.{Binds, StandsFor}
 use Rattle.chyp_verdicts.specs.Texts.{statements_of}
@@ -103,9 +103,9 @@ mutual
       ap there (makes-unique library known name (length statements) env e k l')
 
 -- what a statement stands for is determined by its origin
-pub means-unique : (library : Library) → Known → (origin : List ℕ × ℕ) (a b : Sense) → Means (standing library) origin a → Means (standing library) origin b → a ≡ b
+pub means-unique : (library : Library) → Known → (origin : Origin) (a b : Sense) → Means (standing library) origin a → Means (standing library) origin b → a ≡ b
 means-unique library known origin a b m n =
-    let same = stands-unique library known origin.0 origin.1 m.site n.site m.stands n.stands in
+    let same = stands-unique library known origin.home origin.number m.site n.site m.stands n.stands in
     let judged = subst (λ p. IsJudged p n.verdict) (sym same) n.judged in
     let verdicts = judged-once known m.site m.verdict n.verdict m.judged judged in
     let stands_for = subst (λ v. StandsFor m.site v b) (sym verdicts) (subst (λ p. StandsFor p n.verdict b) (sym same) n.stands_for) in

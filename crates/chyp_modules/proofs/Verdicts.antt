@@ -36,7 +36,8 @@ mutual
   stands-verdicts : (library : Library) (name : List ℕ) (number : ℕ) (s : Site) → Stands library name number s → SomeVerdicts library name number
   stands-verdicts library name number s (stands h m e k f) = makes-verdicts library name number s.scope.env k
 
-gets-once : (library : Library) → Known → (name : List ℕ) (number : ℕ) (v w : Verdict) → Gets (standing library) (name, number) v → Gets (standing library) (name, number) w → v ≡ w
+gets-once : (library : Library) → Known → (name : List ℕ) (number : ℕ) (v w : Verdict)
+    → Gets (standing library) (record { home = name; number = number }) v → Gets (standing library) (record { home = name; number = number }) w → v ≡ w
 gets-once library known name number v w a b =
     let same = stands-unique library known name number a.site b.site a.stands b.stands in
     judged-once known a.site v w a.judged (subst (λ p. IsJudged p w) (sym same) b.judged)

@@ -7,7 +7,7 @@ use Rattle.std.specs.Str.{bytes_eq}
 use Rattle.chyp_syntax.specs.Heading.{declared_name}
 use Rattle.chyp_syntax.specs.Words.{Word, bytes_at}
 use Rattle.chyp_env.specs.Import.{prefixed}
-use Rattle.chyp_verdicts.specs.Standing.{Origin}
+use Rattle.chyp_env.specs.Environment.{Origin}
 use Rattle.chyp_modules.specs.Import.{Imports, ImportsNothing, Reaches}
 use Rattle.chyp_modules.specs.Library.{Library, IsModule}
 
@@ -45,7 +45,8 @@ mutual
         → Declares library name zero []
     one_more : {name text : List ℕ} {number : ℕ} {statements : List (List Word)} {words : List Word} {front offered next : List Declaration}
         → IsModule library name text statements → slice_get statements number ≡ Some words → Declares library name number front
-        → Offers library (name, number) words offered → Adds front offered next → Declares library name (suc number) next
+        → Offers library (record { home = name; number = number }) words offered → Adds front offered next
+        → Declares library name (suc number) next
 
   -- What the statement of this origin, with these words, offers: its own name; or, where it imports a module that is there and doesn't
   -- reach itself, all names of that module; or nothing.

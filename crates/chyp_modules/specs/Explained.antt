@@ -10,12 +10,12 @@ use Rattle.chyp_modules.specs.Modules.{AreVerdicts, standing}
 -- reaches and that doesn't reach that one back.
 abbrev pub StandsBefore : Library → Order
 StandsBefore library one other =
-    ((one.0 ≡ other.0) × (one.1 < other.1)) ⊎ (Reaches library other.0 one.0 × ¬ Reaches library one.0 other.0)
+    ((one.home ≡ other.home) × (one.number < other.number)) ⊎ (Reaches library other.home one.home × ¬ Reaches library one.home other.home)
 
 -- what the verdicts of the statements of a module say, one by one, is so
 abbrev pub AreExplained : Library → List ℕ → List Verdict → Type 0
 AreExplained library name verdicts = (number : ℕ) (verdict : Verdict) → slice_get verdicts number ≡ Some verdict
-    → Explains (standing library) (StandsBefore library) (name, number) verdict
+    → Explains (standing library) (StandsBefore library) (record { home = name; number = number }) verdict
 
 -- so it is in each module of each library, and so in each main text
 abbrev pub VerdictsAreExplained : Type 0

@@ -46,7 +46,8 @@ TextsAreDetermined = (modules : List Module) (text : List ℕ)
 -- a rewrite that is proved has a derivation, from its first term to its last, from rules that are permitted to it
 abbrev pub ProvedRewritesAreDerived : Type 0
 ProvedRewritesAreDerived = (library : Library) (home : List ℕ) (number : ℕ) (site : Site) → Stands library home number site
-    → IsJudged site Proved → (first last : Morphism) → IsRewriteOf site first last → IsDerived (standing library) (home, number) first last
+    → IsJudged site Proved → (first last : Morphism) → IsRewriteOf site first last
+    → IsDerived (standing library) (record { home = home; number = number }) first last
 
 -- bindings of one origin have one sense, in all environments that modules of one library make
 abbrev pub OriginsDetermineSenses : Type 0

@@ -48,7 +48,7 @@ pub record HasEnvironment (library : Library) (name : List ℕ) (env : List Bind
 
 -- the statements of the modules of a library, each where it stands
 abbrev pub standing : Library → Standing
-standing library origin site = Stands library origin.0 origin.1 site
+standing library origin site = Stands library origin.home origin.number site
 
 -- the statements of a module get these verdicts
 pub record AreVerdicts (library : Library) (name : List ℕ) (verdicts : List Verdict) : Type 0 where
@@ -56,4 +56,5 @@ pub record AreVerdicts (library : Library) (name : List ℕ) (verdicts : List Ve
   pub statements : List (List Word)
   pub is_module : IsModule library name text statements
   pub many : length verdicts ≡ length statements
-  pub each : (number : ℕ) (verdict : Verdict) → slice_get verdicts number ≡ Some verdict → Gets (standing library) (name, number) verdict
+  pub each : (number : ℕ) (verdict : Verdict) → slice_get verdicts number ≡ Some verdict
+      → Gets (standing library) (record { home = name; number = number }) verdict

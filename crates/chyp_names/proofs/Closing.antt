@@ -19,7 +19,7 @@ use Rattle.chyp_syntax.proofs.OneTree.{has_one_tree}
 use Rattle.chyp_term.specs.Morphism.{Morphism}
 use Rattle.chyp_env.specs.ChunkView.{AreNamed}
 use Rattle.chyp_env.specs.Closed.{FitsBehind, HasBoundGenerators, HasBoundSense, IsClosed}
-use Rattle.chyp_env.specs.Environment.{Sense, generator, abbreviation, law, Binding}
+use Rattle.chyp_env.specs.Environment.{Sense, generator, abbreviation, law, Binding, Origin}
 use Rattle.chyp_env.specs.Import.{all_passed_on, first_clash}
 use Rattle.chyp_env.specs.Site.{Imported, IsImportState, Site, an_import, no_import, there}
 use Rattle.chyp_env.proofs.Closed.{AreBound, covers-append, term-covered}
@@ -59,7 +59,7 @@ at-place P (x ∷ xs) (suc k) t all e = at-place P xs k t (All-tail P x xs all) 
 -- ---- what a statement stands for
 
 -- each generator of what a statement stands for has a binding, if that of the statement's name is there too
-pub sense-bound : (s : Site) → AreBound s.scope.env → (v : Verdict) (sense : Sense) → StandsFor s v sense → (name : List ℕ) (o : List ℕ × ℕ)
+pub sense-bound : (s : Site) → AreBound s.scope.env → (v : Verdict) (sense : Sense) → StandsFor s v sense → (name : List ℕ) (o : Origin)
     → HasBoundSense (s.scope.env ++ record { name = name; origin = o; sense = sense } ∷ []) sense
 sense-bound s bound v sense (a_declared_generator {label} {a} {b} t e) name o =
     let mine : Binding = record { name = name; origin = o; sense = generator label a b } in
@@ -135,7 +135,7 @@ prefix-named (a ∷ b ∷ c ∷ d ∷ e ∷ rest) word (Some prefix) named s = a
 -- ---- what is bound
 
 -- what a statement stands for may be bound to the name that it declares
-pub declared-fits : (s : Site) (v : Verdict) (sense other : Sense) (name : List ℕ) (o : List ℕ × ℕ) → IsClosed s.scope.env → AreNamed s.scope.words
+pub declared-fits : (s : Site) (v : Verdict) (sense other : Sense) (name : List ℕ) (o : Origin) → IsClosed s.scope.env → AreNamed s.scope.words
     → declared_name s.scope.words ≡ Some name
     → StandsFor s v other → sense ≡ other → FitsBehind s.scope.env (record { name = name; origin = o; sense = sense })
 declared-fits s v sense other name o closed named declared stands same =
@@ -146,11 +146,12 @@ declared-fits s v sense other name o closed named declared stands same =
 pub sense-fits : (home : List ℕ) (words : List Word) (env : List Binding) (imported : Imported) (body : Option Body) (verdict : Verdict) (name : List ℕ)
     → IsOutcome (site_at home env imported words) body verdict → declared_name words ≡ Some name → (number : ℕ) (sense : Sense) (keyword : Option TokenKind) (terms : List Morphism)
     → keyword ≡ keyword_in words → terms ≡ terms_in body → sense ≡ sense_for keyword terms verdict → IsClosed env → AreNamed words
-    → FitsBehind env (record { name = name; origin = (home, number); sense = sense })
+    → FitsBehind env (record { name = name; origin = record { home = home; number = number }; sense = sense })
 sense-fits home words env imported body verdict name outcome declared number sense keyword terms k t same closed named =
     let fit = outcome_fit home env imported words body verdict name outcome declared in
     let is : sense ≡ sense_for (keyword_in words) (terms_in body) verdict = cc (same, k, t) in
-    declared-fits (site_at home env imported words) verdict sense (sense_for (keyword_in words) (terms_in body) verdict) name (home, number) closed named declared fit.stands is
+    declared-fits (site_at home env imported words) verdict sense (sense_for (keyword_in words) (terms_in body) verdict) name
+    (record { home = home; number = number }) closed named declared fit.stands is
 
 no-first : (o : Option (List ℕ)) → option_map Clash o ≡ None → o ≡ None
 no-first None e = refl

@@ -193,7 +193,8 @@ module _ (home : List ℕ) (words : List Word) (env : List Binding) (imported : 
   -- the name of the statement is bound to it
   pub sense_binds : {T E : Type 0} (number : ℕ) (sense : Sense) (keyword : Option TokenKind) (terms : List Morphism) (new : List Binding) (result : Result T E) → keyword ≡ keyword_in words
       → terms ≡ terms_in body → sense ≡ sense_for keyword terms verdict → is_bound env name ≡ false
-      → OnOk result (new ≡ env ++ record { name = name; origin = (home, number); sense = sense } ∷ []) → OnOk result (Binds (site_at home env imported words) number verdict new)
+      → OnOk result (new ≡ env ++ record { name = name; origin = record { home = home; number = number }; sense = sense } ∷ [])
+      → OnOk result (Binds (site_at home env imported words) number verdict new)
   sense_binds number sense keyword terms new (Ok x) k t same free is = rw (is, same, k, t) (anew declared free fit.stands)
   sense_binds number sense keyword terms new (Err e) k t same free is = tt
 

@@ -53,7 +53,8 @@ pub data Binds (site : Site) (number : ℕ) (verdict : Verdict) : List Binding �
       → Binds site number verdict site.scope.env
   anew : {name : List ℕ} {sense : Sense} → declared_name site.scope.words ≡ Some name → is_bound site.scope.env name ≡ false
       → StandsFor site verdict sense
-      → Binds site number verdict (site.scope.env ++ record { name = name; origin = (site.home, number); sense = sense } ∷ [])
+      → Binds site number verdict
+      (site.scope.env ++ record { name = name; origin = record { home = site.home; number = number }; sense = sense } ∷ [])
   imports : {word : ℕ} {as_word : Option ℕ} {env : List Binding} → verdict ≡ Accepted → IsSentence site.scope.words (inclusion word as_word)
       → site.imported ≡ there env
       → Binds site number verdict (site.scope.env ++ new_in site.scope.env (all_passed_on (prefix_at site.scope as_word) env))

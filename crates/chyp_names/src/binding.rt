@@ -198,9 +198,10 @@ fn bind_name(
     requires free { is_bound env.old name.now ≡ false }
     requires spelled { IsUtf8 name.now }
     requires sound { IsSoundSense (sense_of meaning) }
-    requires closed { FitsBehind env.old (record { name = name.now; origin = («module».now, index); sense = sense_of meaning }) }
-    ensures ok { OnOk result (env.new ≡ env.old ++ record { name = name.now; origin = («module».now, index); sense = sense_of meaning }
-        ∷ []) }
+    requires closed { FitsBehind env.old
+        (record { name = name.now; origin = record { home = «module».now; number = index }; sense = sense_of meaning }) }
+    ensures ok { OnOk result (env.new ≡ env.old
+        ++ record { name = name.now; origin = record { home = «module».now; number = index }; sense = sense_of meaning } ∷ []) }
     ensures err { OnErr result (env.new ≡ env.old) }
 {
     let name = spelled(env.allocator(), name)?;

@@ -6,8 +6,9 @@ use Rattle.chyp_term.specs.Derivation.{Derives, IsEquation, same, back, chain, i
 use Rattle.chyp_term.specs.Morphism.{Morphism, then, beside, IsTyped}
 use Rattle.chyp_term.specs.Rewriting.{RewritesInContext}
 use Rattle.chyp_theory.proofs.Wires.{derivation_equation}
+use Rattle.chyp_env.specs.Environment.{Origin}
 use Rattle.chyp_verdicts.specs.Rules.{Permits, IsDerived}
-use Rattle.chyp_verdicts.specs.Standing.{Origin, Standing}
+use Rattle.chyp_verdicts.specs.Standing.{Standing}
 use Rattle.chyp_env.proofs.Bindings.{Contains-from_cons}
 
 abbrev pub Equation : Type 0

@@ -11,7 +11,7 @@ use Rattle.chyp_syntax.specs.Words.{bytes_at}
 use Rattle.chyp_term.specs.Derivation.{IsEquation, given}
 use Rattle.chyp_term.specs.Morphism.{Morphism}
 use Rattle.chyp_term.specs.Step.{Reason}
-use Rattle.chyp_env.specs.Environment.{Sense, law, Binding}
+use Rattle.chyp_env.specs.Environment.{Sense, law, Binding, Origin}
 use Rattle.chyp_env.specs.Site.{Imported, there, Site}
 use Rattle.chyp_env.specs.Sound.{IsSound}
 use Rattle.chyp_names.specs.Binding.{Binds, nothing, again, anew, imports, StandsFor, a_declared_generator, a_term, a_rule, a_proved_rewrite, an_unproved_rewrite, a_broken_statement}
@@ -19,7 +19,7 @@ use Rattle.chyp_names.specs.Elaboration.{Passes, prefix_at, reason_at, steps_at}
 use Rattle.chyp_names.specs.Naming.{names_of_reason}
 use Rattle.chyp_verdicts.specs.Judged.{IsJudged}
 use Rattle.chyp_verdicts.specs.Rules.{Cites, IsDerived, IsRewriteOf, Permits, by_name, cited_by, itself}
-use Rattle.chyp_verdicts.specs.Standing.{Means, Origin, Standing}
+use Rattle.chyp_verdicts.specs.Standing.{Means, Standing}
 use Rattle.chyp_verdicts.specs.Steps.{rules_of}
 use Rattle.chyp_env.proofs.Bindings.{All-from, binding-found, import-all}
 use Rattle.chyp_verdicts.proofs.Cited.{IsLawThere, cited-law, reason-laws}
@@ -93,13 +93,13 @@ sense-derived Stands known o s st env laws v name e j sense (an_unproved_rewrite
 sense-derived Stands known o s st env laws v name e j sense (a_broken_statement r p) = tt
 
 -- so are the laws behind a statement
-pub binds-derived : (Stands : Standing) → Known → (n : ℕ) (s : Site) → Stands (s.home, n) s → IsSound s.scope.env → AreLawsDerived Stands s.scope.env → AreImportsDerived Stands s.imported
-    → (v : Verdict) (next : List Binding) → IsJudged s v → Binds s n v next → AreLawsDerived Stands next
+pub binds-derived : (Stands : Standing) → Known → (n : ℕ) (s : Site) → Stands (record { home = s.home; number = n }) s → IsSound s.scope.env → AreLawsDerived Stands s.scope.env
+    → AreImportsDerived Stands s.imported → (v : Verdict) (next : List Binding) → IsJudged s v → Binds s n v next → AreLawsDerived Stands next
 binds-derived Stands known n s st env laws k v next j (nothing e o) = laws
 binds-derived Stands known n s st env laws k v next j (again e f) = laws
 binds-derived Stands known n s st env laws k v next j (anew {name} {sense} e f x) =
     let P : Binding → Type 0 = λ b. IsLawDerived Stands b.origin b.sense in
-    let b : Binding = record { name = name; origin = (s.home, n); sense = sense } in
-    All-append P s.scope.env (b ∷ []) laws (All-cons P b [] (sense-derived Stands known (s.home, n) s st env laws v name e j sense x) (All-nil _))
+    let b : Binding = record { name = name; origin = record { home = s.home; number = n }; sense = sense } in
+    All-append P s.scope.env (b ∷ []) laws (All-cons P b [] (sense-derived Stands known (record { home = s.home; number = n }) s st env laws v name e j sense x) (All-nil _))
 binds-derived Stands known n s st env laws k v next j (imports {as_word} {env = bs} f t i) =
     import-all (λ b. IsLawDerived Stands b.origin b.sense) s.scope.env bs (prefix_at s.scope as_word) (λ b x. x) laws (subst (AreImportsDerived Stands) i k)

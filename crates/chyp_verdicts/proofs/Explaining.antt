@@ -12,7 +12,7 @@ use Rattle.chyp_syntax.specs.Statement.{rule, rewrite, StatementTree}
 use Rattle.chyp_syntax.specs.Words.{bytes_at}
 use Rattle.chyp_term.specs.Morphism.{Morphism}
 use Rattle.chyp_term.specs.Step.{Reason, by_laws, by_rule, by_simp}
-use Rattle.chyp_env.specs.Environment.{Binding}
+use Rattle.chyp_env.specs.Environment.{Binding, Origin}
 use Rattle.chyp_env.specs.Site.{Site, there}
 use Rattle.chyp_env.specs.Sound.{IsSound}
 use Rattle.chyp_judge.specs.Judged.{IsJudgement, derived, not_derived, rewrites, rewrites_not, simp_limit, simp_wide, simplifies, simplifies_not, wide}
@@ -21,7 +21,7 @@ use Rattle.chyp_names.specs.Elaboration.{expansion_at, has_hole, steps_at, terms
 use Rattle.chyp_verdicts.specs.Explained.{Explains, HasProof, HasStep, IsEarlierRule, Order}
 use Rattle.chyp_verdicts.specs.Judged.{IsJudged, accepted, by_steps, moves_at, no_sentence, refused}
 use Rattle.chyp_verdicts.specs.Rules.{Cites, IsRewriteOf, Permits, RestsOn, by_name, itself}
-use Rattle.chyp_verdicts.specs.Standing.{Gets, Origin, Standing}
+use Rattle.chyp_verdicts.specs.Standing.{Gets, Standing}
 use Rattle.chyp_verdicts.specs.Steps.{IsVerdictOnSteps, StopsWith, proved, refusal_at, stops, unfinished}
 use Rattle.chyp_env.proofs.Bindings.{binding-found}
 use Rattle.chyp_verdicts.proofs.Derived.{AreLawsDerived, rewrite-derived}

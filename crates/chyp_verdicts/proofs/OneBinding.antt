@@ -149,4 +149,4 @@ binds-once one s n v a b (anew {name} f i t) (again {name = other} g j) =
 binds-once one s n v a b (anew {name} {sense} f i t) (anew {name = other} {sense = meant} g j u) =
     let same = some-once (declared_name s.scope.words) name other f g in
     let senses = stands-once one s v sense meant t u in
-    ap₂ (λ x y. s.scope.env ++ record { name = x; origin = (s.home, n); sense = y } ∷ []) same senses
+    ap₂ (λ x y. s.scope.env ++ record { name = x; origin = record { home = s.home; number = n }; sense = y } ∷ []) same senses

@@ -42,7 +42,7 @@ some-binds known s n v sound state j = go (declared_name s.scope.words) refl
         bound true i = record { next = s.scope.env; binds = again e i }
         bound false i =
             let x = some-sense known.typed s sound v name e j in
-            record { next = s.scope.env ++ record { name = name; origin = (s.home, n); sense = x.sense } ∷ []; binds = anew e i x.stands }
+            record { next = s.scope.env ++ record { name = name; origin = record { home = s.home; number = n }; sense = x.sense } ∷ []; binds = anew e i x.stands }
 
 -- ---- laws
 

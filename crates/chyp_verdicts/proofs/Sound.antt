@@ -31,7 +31,7 @@ pub binds-sound : Known → (s : Site) (n : ℕ) (v : Verdict) (next : List Bind
 binds-sound known s n v next h k j (nothing e o) = h
 binds-sound known s n v next h k j (again e f) = h
 binds-sound known s n v next h k j (anew {name} {sense} e f st) =
-    let b : Binding = record { name = name; origin = (s.home, n); sense = sense } in
+    let b : Binding = record { name = name; origin = record { home = s.home; number = n }; sense = sense } in
     record {
       each = All-append (λ (c : Binding). IsSoundSense c.sense) s.scope.env (b ∷ []) h.each
           (All-cons (λ (c : Binding). IsSoundSense c.sense) b [] (sense-sound known s h v name e j sense st) (All-nil _));

@@ -28,19 +28,19 @@ get-there (x ∷ xs) (suc k) h = get-there xs k (omega arith)
 -- the first statements, as many as this, get these verdicts
 pub record HaveVerdicts (Stands : Standing) (home : List ℕ) (number : ℕ) (verdicts : List Verdict) : Type 0 where
   pub many : length verdicts ≡ number
-  pub each : (k : ℕ) (v : Verdict) → slice_get verdicts k ≡ Some v → Gets Stands (home, k) v
+  pub each : (k : ℕ) (v : Verdict) → slice_get verdicts k ≡ Some v → Gets Stands (record { home = home; number = k }) v
 
 pub no-verdicts : (Stands : Standing) (home : List ℕ) → HaveVerdicts Stands home 0 []
 no-verdicts Stands home = record { many = refl; each = λ k v e. absurd cc }
 
 -- one verdict more
-pub push-verdict : (Stands : Standing) (home : List ℕ) (number : ℕ) (verdicts : List Verdict) (v : Verdict) → HaveVerdicts Stands home number verdicts → Gets Stands (home, number) v
-    → HaveVerdicts Stands home (suc number) (verdicts ++ v ∷ [])
+pub push-verdict : (Stands : Standing) (home : List ℕ) (number : ℕ) (verdicts : List Verdict) (v : Verdict) → HaveVerdicts Stands home number verdicts
+    → Gets Stands (record { home = home; number = number }) v → HaveVerdicts Stands home (suc number) (verdicts ++ v ∷ [])
 push-verdict Stands home number verdicts v front g = record {
   many = let many = front.many in let l = length-append verdicts (v ∷ []) in omega arith;
   each = λ k w e. go k w (get-push verdicts v w k e);
 }
   where
-    go : (k : ℕ) (w : Verdict) → ((k < length verdicts) × (slice_get verdicts k ≡ Some w)) ⊎ ((k ≡ length verdicts) × (v ≡ w)) → Gets Stands (home, k) w
+    go : (k : ℕ) (w : Verdict) → ((k < length verdicts) × (slice_get verdicts k ≡ Some w)) ⊎ ((k ≡ length verdicts) × (v ≡ w)) → Gets Stands (record { home = home; number = k }) w
     go k w (inl h) = front.each k w h.1
-    go k w (inr h) = subst (λ n. Gets Stands (home, n) w) (sym (h.0 ∙ front.many)) (subst (Gets Stands (home, number)) h.1 g)
+    go k w (inr h) = subst (λ n. Gets Stands (record { home = home; number = n }) w) (sym (h.0 ∙ front.many)) (subst (Gets Stands (record { home = home; number = number })) h.1 g)

@@ -8,7 +8,7 @@ use Rattle.chyp_term.specs.Derivation.{Derives}
 use Rattle.chyp_term.specs.Morphism.{Morphism}
 use Rattle.chyp_term.specs.Rewriting.{RewritesInContext}
 use Rattle.chyp_term.specs.Step.{Reason, by_laws, by_rule, by_simp}
-use Rattle.chyp_env.specs.Environment.{law}
+use Rattle.chyp_env.specs.Environment.{law, Origin}
 use Rattle.chyp_env.specs.Site.{Site}
 use Rattle.chyp_simp.specs.Comparing.{IsComparison}
 use Rattle.chyp_simp.specs.Run.{most_placements}
@@ -18,7 +18,7 @@ use Rattle.chyp_simp.specs.declared.comparison.Comparison.TheVariants.{AtLimit, 
 use Rattle.chyp_judge.specs.Judged.{HaveOccurrences, HavePlacements}
 use Rattle.chyp_verdicts.specs.Judged.{moves_at}
 use Rattle.chyp_verdicts.specs.Rules.{IsRewriteOf, RestsOn}
-use Rattle.chyp_verdicts.specs.Standing.{Means, Origin, Standing}
+use Rattle.chyp_verdicts.specs.Standing.{Means, Standing}
 use Rattle.chyp_verdicts.specs.Steps.{AreGood}
 
 -- which statements stand before which others

@@ -7,14 +7,14 @@ use Rattle.chyp_syntax.specs.Step.{StepTree}
 use Rattle.chyp_syntax.specs.Term.{TermTree}
 use Rattle.chyp_term.specs.Derivation.{Derives}
 use Rattle.chyp_term.specs.Morphism.{Morphism}
-use Rattle.chyp_env.specs.Environment.{law, Binding}
+use Rattle.chyp_env.specs.Environment.{law, Binding, Origin}
 use Rattle.chyp_env.specs.Scope.{binding_at}
 use Rattle.chyp_env.specs.Site.{Site}
 use Rattle.chyp_env.specs.Sound.{IsSound}
 use Rattle.chyp_names.specs.Elaboration.{steps_at, terms_of}
 use Rattle.chyp_names.specs.Naming.{names_of_reason}
 use Rattle.chyp_verdicts.specs.Judged.{IsJudged}
-use Rattle.chyp_verdicts.specs.Standing.{Means, Origin, Standing}
+use Rattle.chyp_verdicts.specs.Standing.{Means, Standing}
 use Rattle.chyp_verdicts.specs.Steps.{rules_of}
 
 -- the statement is a `rule`

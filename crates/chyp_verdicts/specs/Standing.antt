@@ -1,14 +1,9 @@
 -- Statements by their origins: the verdicts that they get, and what they stand for.
-use Rattle.std.specs.Prelude.{ℕ, List}
 use Rattle.chyp_base.specs.declared.verdict.Verdict.{Verdict}
-use Rattle.chyp_env.specs.Environment.{Sense}
+use Rattle.chyp_env.specs.Environment.{Origin, Sense}
 use Rattle.chyp_env.specs.Site.{Site}
 use Rattle.chyp_names.specs.Binding.{StandsFor}
 use Rattle.chyp_verdicts.specs.Judged.{IsJudged}
-
--- a statement's origin: the name of its module, and its number there
-abbrev pub Origin : Type 0
-Origin = List ℕ × ℕ
 
 -- which statement stands at which site, behind those before it: in one text, or in the modules of a library
 abbrev pub Standing : Type 1
