@@ -19,7 +19,7 @@ use Rattle.chyp_iso.specs.Port.{IsPortAt, Side, ports_on, the_sources, the_targe
 use Rattle.chyp_iso.specs.Following.{Fits}
 use Rattle.chyp_iso.proofs.Ports.{once, port-edge, port-is, port-no_end}
 use Rattle.chyp_iso.proofs.Steps.{wires-back}
-use Rattle.chyp_match.specs.Closure.{LeadsTo, here, on}
+use Rattle.chyp_match.specs.Reach.{LeadsTo, here, on}
 use Rattle.chyp_match.specs.Convex.{IsTakenAt, IsUnbroken}
 use Rattle.chyp_match.specs.Following.{IsComplete}
 

@@ -1,14 +1,13 @@
 -- The ends of a pattern, one by one.
-use Rattle.std.proofs.Common.{ℕ, ◌+◌, ◌<◌, ◌≤◌, ◌≡◌, Bool, List, length, Option, Some, None, slice_get, get_or, ◌⊎◌, inl, inr, sym, ◌∙◌, ap, subst, arith}
+use Rattle.std.proofs.Common.{ℕ, ◌+◌, ◌<◌, ◌≤◌, ◌≡◌, Bool, List, length, Option, Some, None, slice_get, ◌⊎◌, inl, inr, sym, ◌∙◌, ap, subst, arith}
 use Rattle.std.proofs.lemmas.Bool.{cases_lt}
-use Rattle.chyp_term.proofs.Closure.{get-item}
 use Rattle.chyp_term.proofs.Members.{Contains-member, get-member, member-Contains, member-get}
 use Rattle.chyp_term.proofs.Positions.{slice_get-length}
 use Rattle.chyp_graph.specs.PlainGraph.{PlainGraph}
 use Rattle.chyp_pairs.specs.declared.pair.Pair.{Pair}
 use Rattle.chyp_iso.specs.Port.{the_sources}
 use Rattle.chyp_iso.proofs.Ports.{below-edge}
-use Rattle.chyp_match.specs.Closure.{IsClosure, IsRow, LeadsTo}
+use Rattle.chyp_match.specs.Reach.{IsRow, LeadsTo}
 use Rattle.chyp_match.specs.Convex.{IsTakenAt, IsTheOne, IsUnbroken, MakesImage, TakesImage}
 use Rattle.chyp_match.specs.Row.{IsMarked}
 
@@ -41,13 +40,6 @@ module _ (l g : PlainGraph) (ps : List Pair) where
       let i = member-get l.outputs t.0 (Contains-member l.outputs t.0 t.2) in
       let c = slice_get-length l.outputs i.0 t.0 i.1 in
       f i.0 t.0 t.1 (omega arith) i.1 t.3 t.4
-
-  -- the row of an edge
-  pub closure-row : (rows : List (List Bool)) (i k : ℕ) (row : List Bool) → IsClosure g rows → i ≡ k → k < length g.edges → row ≡ get_or rows i row → IsRow g k row
-  closure-row rows i k row c e b q =
-      let s = c.size in
-      let at = get-item rows i row (omega arith) q in
-      c.each k row (ap (slice_get rows) (sym e) ∙ at)
 
   pub marked-taken : (k : ℕ) (row : List Bool) → IsRow g k row → IsTakenAt l g ps (IsMarked row) → IsTakenAt l g ps (λ j. LeadsTo g j k)
   marked-taken k row r t = let x = t.3 in let m = r.marks t.1 (below-edge g the_sources t.1 x.1 x.0 x.3) in (t.0, t.1, t.2, t.3, m.0 t.4)

@@ -5,7 +5,7 @@ use Rattle.chyp_pairs.specs.declared.pair.Pair.{Pair}
 use Rattle.chyp_pairs.specs.declared.pair.Pair.TheVariants.{Wires}
 use Rattle.chyp_pairs.specs.Pairs.{Has}
 use Rattle.chyp_iso.specs.Port.{IsPortAt, the_sources, the_targets}
-use Rattle.chyp_match.specs.Closure.{LeadsTo}
+use Rattle.chyp_match.specs.Reach.{LeadsTo}
 
 -- the edge j takes the image of the wire v
 abbrev pub TakesImage : PlainGraph → List Pair → ℕ → ℕ → Type 0

@@ -6,7 +6,7 @@ pub mod Listed
 pub mod Levels
 pub mod Search
 pub mod Row
-pub mod Closure
+pub mod Reach
 pub mod Convex
 pub mod Matcher
 pub mod View

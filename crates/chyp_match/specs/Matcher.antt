@@ -6,7 +6,7 @@ use Rattle.chyp_pattern.specs.Pattern.{Parts}
 use Rattle.chyp_pattern.specs.Occurrences.{AreOccurrences}
 use Rattle.chyp_pattern.specs.declared.occurrence.Occurrence.{Occurrence}
 use Rattle.chyp_pattern.proofs.Listed.{listed}
-use Rattle.chyp_match.specs.Closure.{IsClosure}
+use Rattle.chyp_match.specs.Reach.{IsReach}
 use Rattle.chyp_pairs.specs.Pairs.{IsMatching, edge_there, image, wire_there}
 use Rattle.chyp_match.specs.Search.{IsEarlier, IsPast, IsSearch, chosen, images_of}
 use Rattle.chyp_match.specs.declared.finder.Finder.{Finder}
@@ -42,10 +42,10 @@ given_of l g begun at = filter (λ o. is_past begun at (images_of l o)) (listed 
 abbrev pub given_by : Finder → ℕ
 given_by f = length (given_of f.pattern.now f.graph.now f.begun (chosen f.search.levels.levels))
 
--- the search, what leads to what, and room for the images of all edges and wires
+-- the search, what leads to what as far as it is known, and room for the images of all edges and wires
 pub record IsFinder (f : Finder) : Type 0 where
   pub search : IsSearch f.pattern.now f.graph.now f.search
-  pub closure : IsClosure f.graph.now f.rows.items
+  pub reach : IsReach f.graph.now f.reach
   pub edges : length f.found.edges ≡ length f.pattern.now.graph.edges
   pub wires : length f.found.wires ≡ length f.pattern.now.graph.wires
 

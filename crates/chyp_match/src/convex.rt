@@ -2,12 +2,13 @@
 ghost use Rattle.std.specs.Prelude.{◌≡◌, ℕ, ◌<◌, ◌≤◌, length};
 ghost use Rattle.std.specs.Bool.{MatchBool};
 ghost use Rattle.chyp_iso.specs.Following.{Fits};
-ghost use Rattle.chyp_match.specs.Closure.{IsClosure};
 ghost use Rattle.chyp_match.specs.Convex.{IsTakenAt, IsTheOne, IsUnbroken, MakesImage, TakesImage};
+ghost use Rattle.chyp_match.specs.Reach.{IsReach};
 ghost use Rattle.chyp_match.specs.Row.{IsMarked};
 ghost use Rattle.chyp_pairs.specs.Pairs.{Has, IsMatching, Pairs};
 ghost use Rattle.chyp_pairs.specs.declared.pair.Pair.TheVariants.{Wires};
 
+use crate::reach::Reach;
 use crate::row::Row;
 use chyp_graph::{EdgeId, Graph, WireId};
 use chyp_pairs::Pairing;
@@ -39,10 +40,10 @@ fn maker(pairing: &Pairing, graph: &Graph, u: WireId) -> Option<EdgeId>
 /// Whether one of the marked edges takes the image of an output.
 fn is_taken(row: &Row, pairing: &Pairing, pattern: &Graph, graph: &Graph) -> bool
     requires fits { Fits pattern.now graph.now pairing.now }
-    requires size { length row.now ≡ length graph.now.edges }
+    requires size { length row.now.marks ≡ length graph.now.edges }
     ensures { MatchBool result
-        (IsTakenAt pattern.now graph.now pairing.now.pairs (IsMarked row.now))
-        (IsTakenAt pattern.now graph.now pairing.now.pairs (IsMarked row.now) → ⊥) }
+        (IsTakenAt pattern.now graph.now pairing.now.pairs (IsMarked row.now.marks))
+        (IsTakenAt pattern.now graph.now pairing.now.pairs (IsMarked row.now.marks) → ⊥) }
 {
     for v in pattern.outputs() {
         if let Some(j) = taker(pairing, graph, *v) {
@@ -55,9 +56,15 @@ fn is_taken(row: &Row, pairing: &Pairing, pattern: &Graph, graph: &Graph) -> boo
 }
 
 /// Whether no edge that takes the image of an output leads to one that makes the image of an input.
-pub(crate) fn is_unbroken(rows: &[Row], pairing: &Pairing, pattern: &Graph, graph: &Graph) -> bool
+pub(crate) fn is_unbroken(
+    reach: &mut Reach,
+    pairing: &Pairing,
+    pattern: &Graph,
+    graph: &Graph,
+) -> bool
     requires fits { Fits pattern.now graph.now pairing.now }
-    requires closure { IsClosure graph.now rows.now }
+    requires reach { IsReach graph.now reach.old }
+    ensures reach { IsReach graph.now reach.new }
     ensures matching { IsMatching pairing.now.pairs }
     ensures outcome { MatchBool result
         (IsUnbroken pattern.now graph.now pairing.now.pairs)
@@ -66,7 +73,8 @@ pub(crate) fn is_unbroken(rows: &[Row], pairing: &Pairing, pattern: &Graph, grap
     let _ = pairing.len();
     for u in pattern.inputs() {
         if let Some(k) = maker(pairing, graph, *u) {
-            if is_taken(&rows[k.0 as usize], pairing, pattern, graph) {
+            reach.find(graph, k);
+            if is_taken(reach.row(k), pairing, pattern, graph) {
                 return false;
             }
         }

@@ -2,11 +2,12 @@
 ghost use Rattle.std.specs.Prelude.{◌≡◌, ℕ, ◌<◌, ◌≤◌, Some, length, slice_index, true};
 ghost use Rattle.std.specs.Bool.{MatchBool};
 ghost use Rattle.chyp_match.specs.Matcher.{AreImages, IsDone, IsFinder, IsNext, IsPassedBy, IsSame};
+ghost use Rattle.chyp_match.specs.Reach.{IsReach};
 ghost use Rattle.chyp_match.specs.Search.{IsFound, IsOver};
 ghost use Rattle.chyp_pairs.specs.Pairs.{Pairs, edge_there, image, wire_there};
 
 use crate::Listed;
-use crate::row::Row;
+use crate::reach::Reach;
 use crate::search::{Search, find, leave};
 use chyp_graph::{EdgeId, EdgeIds, Graph, WireId, WireIds};
 use chyp_pairs::Pairing;
@@ -19,7 +20,7 @@ use std::mem;
 pub(crate) struct Finder<'a> {
     pub(crate) pattern: &'a Pattern,
     pub(crate) graph: &'a Listed<'a>,
-    pub(crate) rows: Vec<Row>,
+    pub(crate) reach: Reach,
     pub(crate) search: Search,
     pub(crate) begun: bool,
     pub(crate) found: Occurrence,
@@ -60,7 +61,8 @@ fn wire_images(pairing: &Pairing, ids: WireIds, count: u32) -> WireIds
 /// Goes on to the next images that an occurrence has; whether there are such.
 fn go_on(finder: &mut Finder) -> bool
     requires { IsFinder finder.old }
-    ensures same { finder.new ≡ record finder.old { search = finder.new.search; begun = true } }
+    ensures same { finder.new ≡ record finder.old { reach = finder.new.reach; search = finder.new.search; begun = true } }
+    ensures reach { IsReach finder.old.graph.now finder.new.reach }
     ensures outcome { MatchBool result
         (IsFound finder.old.pattern.now finder.old.graph.now (IsPassedBy finder.old) finder.new.search)
         (IsOver finder.old.pattern.now finder.old.graph.now (IsPassedBy finder.old) finder.new.search) }
@@ -73,7 +75,7 @@ fn go_on(finder: &mut Finder) -> bool
         &mut finder.search,
         finder.pattern,
         finder.graph,
-        &finder.rows,
+        &mut finder.reach,
     )
 }
 
@@ -84,7 +86,7 @@ fn keep_images(finder: &mut Finder)
     ensures images { AreImages finder.new }
 {
     let _ = finder.search.pairing.len();
-    let alloc = *finder.rows.allocator();
+    let alloc = finder.graph.graph().allocator();
     let small = finder.pattern.graph();
     let edges = mem::replace(&mut finder.found.edges, EdgeIds::from_vec(Vec::new(alloc)));
     let wires = mem::replace(&mut finder.found.wires, WireIds::from_vec(Vec::new(alloc)));

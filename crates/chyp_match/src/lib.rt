@@ -7,15 +7,15 @@
 //! component it follows the ports, so that the image of that edge fixes those of the whole component;
 //! and it asks of what it finds whether no edge that takes the image of an output leads to one that
 //! makes the image of an input, which is convexity (Bonchi, Gadducci, Kissinger, Sobociński and Zanasi,
-//! String Diagram Rewrite Theory II). Which edges lead to which is found once for a graph. It works on
-//! a [`Listed`] graph, which has lists of its edges by name and of its wires by sort and is a [`View`].
+//! String Diagram Rewrite Theory II). Which edges lead to an edge is found when it is first asked for, in
+//! memory that was taken before. It works on a [`Listed`] graph, which has lists of its edges by name and
+//! of its wires by sort and is a [`View`].
 //! `occurrences_are_few` says over all graphs that the occurrences of one in another are one list, and
 //! that it is no longer than the count of placements, as a law function, whose body is empty.
 #![tactic(auto)]
 
 ghost use Rattle.chyp_match.specs.Occurring.{OccurrencesAreBounded, OccurrencesAreListed};
 
-mod closure;
 mod convex;
 mod finder;
 mod follow;
@@ -25,6 +25,7 @@ mod listed;
 mod lists;
 mod occurrences;
 mod placement;
+mod reach;
 mod row;
 mod search;
 mod view;

@@ -6,8 +6,8 @@ ghost use Rattle.chyp_match.specs.Lending.{the_matcher};
 ghost use Rattle.chyp_match.specs.Matcher.{GivesNext, HasGivenAll, Matcher, after};
 
 use crate::Listed;
-use crate::closure::closure;
 use crate::finder::{Finder, advance};
+use crate::reach::Reach;
 use crate::search::Search;
 use chyp_base::NoMemory;
 use chyp_graph::{EdgeId, EdgeIds, WireId, WireIds};
@@ -34,8 +34,7 @@ impl<'a> Model for Occurrences<'a> {
 
 impl<'a> Occurrences<'a> {
     /// The search for the occurrences of the pattern in the graph, which has given none. It takes
-    /// memory for the pairs of edges of the graph, and time for each edge and each edge that leads
-    /// to it.
+    /// memory for the pairs of edges of the graph, and time in proportion to the graph.
     ///
     /// # Errors
     ///
@@ -52,7 +51,7 @@ impl<'a> Occurrences<'a> {
         let finder = Finder {
             pattern,
             graph,
-            rows: closure(alloc, graph.graph())?,
+            reach: Reach::new(alloc, graph.graph())?,
             search: Search::new(alloc, pattern, graph.graph())?,
             begun: false,
             found: Occurrence {
@@ -65,7 +64,8 @@ impl<'a> Occurrences<'a> {
 
     /// The next occurrence, in lexicographic order of the images of the edges and then of the wires;
     /// None exactly after the last one, and from then on. It takes no memory. Each way to begin the
-    /// components is tried once, at a cost of at most the size of the pattern.
+    /// components is tried once, at a cost of at most the size of the pattern; and once for each edge
+    /// the edges that lead to it may be looked for.
     pub fn next(&mut self) -> Option<&Occurrence>
         ensures some { IfSome result (λ o. GivesNext self.old o.now) }
         ensures none { IfNone result (HasGivenAll self.old) }

@@ -5,8 +5,8 @@ ghost use Rattle.chyp_pattern.specs.Pattern.{IsPattern};
 ghost use Rattle.chyp_pattern.specs.Occurrences.{IsLess};
 ghost use Rattle.chyp_pairs.specs.Pairs.{Has, Pairs};
 ghost use Rattle.chyp_iso.specs.Following.{Fits, Leads};
-ghost use Rattle.chyp_match.specs.Closure.{IsClosure};
 ghost use Rattle.chyp_match.specs.Following.{IsComplete, Refutes};
+ghost use Rattle.chyp_match.specs.Reach.{IsReach};
 ghost use Rattle.chyp_pattern.specs.Placements.{IsThere};
 ghost use Rattle.chyp_match.specs.Search.{AreThere, IsAtMost, IsDropped, IsEarlier, IsExhausted, IsFound, IsMoved, IsOver, IsPast, IsSearch, IsTried, choices, chosen, second, seed_of};
 
@@ -15,7 +15,7 @@ use crate::convex::is_unbroken;
 use crate::follow::{follow_all, pair_edges, pair_wires};
 use crate::level::Level;
 use crate::levels::Levels;
-use crate::row::Row;
+use crate::reach::Reach;
 use chyp_base::NoMemory;
 use chyp_graph::Graph;
 use chyp_pairs::{Pair, Pairing};
@@ -220,15 +220,21 @@ fn fill(search: &mut Search, pattern: &Pattern, graph: &Listed) -> bool
 }
 
 /// Gives all components images that an occurrence has, the next ones in order; whether there are such.
-pub(crate) fn find(search: &mut Search, pattern: &Pattern, graph: &Listed, rows: &[Row]) -> bool
+pub(crate) fn find(
+    search: &mut Search,
+    pattern: &Pattern,
+    graph: &Listed,
+    reach: &mut Reach,
+) -> bool
     requires search { IsSearch pattern.now graph.now search.old }
-    requires closure { IsClosure graph.now rows.now }
-    ensures { MatchBool result
+    requires reach { IsReach graph.now reach.old }
+    ensures reach { IsReach graph.now reach.new }
+    ensures outcome { MatchBool result
         (IsFound pattern.now graph.now (IsEarlier pattern.now (chosen search.old.levels.levels)) search.new)
         (IsOver pattern.now graph.now (IsEarlier pattern.now (chosen search.old.levels.levels)) search.new) }
 {
     while fill(search, pattern, graph) {
-        if is_unbroken(rows, &search.pairing, pattern.graph(), graph.graph()) {
+        if is_unbroken(reach, &search.pairing, pattern.graph(), graph.graph()) {
             return true;
         }
         if !leave(search, pattern, graph) {

@@ -10,12 +10,12 @@ loop-v-preserved c =
     let outputs = c.outputs-v-items.ensures.outputs in
     let at : slice_get c.args.pattern.now.outputs c.loop-v.v-index ≡ Some c.v-item.result =
     ap (λ vs. slice_get vs c.loop-v.v-index) (sym outputs) ∙ get-item c.outputs-v-items.result.now c.loop-v.v-index c.v-item.result c.loop-v-test.true c.v-item.is in
-    taken-next c.args.pattern.now c.args.graph.now c.args.pairing.now.pairs c.args.row.now c.loop-v.v-index c.v-item.result c.taker.result c.loop-v.invariant at c.taker.ensures
+    taken-next c.args.pattern.now c.args.graph.now c.args.pairing.now.pairs c.args.row.now.marks c.loop-v.v-index c.v-item.result c.taker.result c.loop-v.invariant at c.taker.ensures
     (elim c.match-taker.branch [
       | in-Some+else-has w ↦ λ j e m.
           let both : Some w.in-Some.j ≡ Some j = sym w.in-Some.is ∙ e in
           let one : w.in-Some.j ≡ j = cc in
-          let marked = subst (IsMarked c.args.row.now) (sym one) m in
+          let marked = subst (IsMarked c.args.row.now.marks) (sym one) m in
           let no = w.if-has.false in
           let is = w.has.ensures in
           let clash = sym marked ∙ is in
@@ -27,4 +27,4 @@ pub returns : goal.returns
 returns c =
     let outputs = ap length c.outputs-v-items.ensures.outputs in
     let t = c.loop-v-test.false in
-    taken-none c.args.pattern.now c.args.graph.now c.args.pairing.now.pairs c.args.row.now c.loop-v.v-index (omega arith) c.loop-v.invariant
+    taken-none c.args.pattern.now c.args.graph.now c.args.pairing.now.pairs c.args.row.now.marks c.loop-v.v-index (omega arith) c.loop-v.invariant

@@ -15,9 +15,9 @@ returns-clause-outcome c =
           go-past f.pattern.now f.graph.now f.search w.leave.new.search c.find.new.search f.begun c.find.result w.if-finder.true
           (when-true w.leave.result _ _ w.leave.ensures w.if-not-leave.false).0
           (subst (λ (x : Finder). MatchBool c.find.result (IsFound x.pattern.now x.graph.now (IsEarlier x.pattern.now (chosen x.search.levels.levels)) c.find.new.search)
-          (IsOver x.pattern.now x.graph.now (IsEarlier x.pattern.now (chosen x.search.levels.levels)) c.find.new.search)) w.finder-is c.find.ensures)
+          (IsOver x.pattern.now x.graph.now (IsEarlier x.pattern.now (chosen x.search.levels.levels)) c.find.new.search)) w.finder-is c.find.ensures.outcome)
       | else-finder-via-else-finder w ↦
           go-first f.pattern.now f.graph.now f.search c.find.new.search f.begun c.find.result w.if-finder.false
           (subst (λ (x : Finder). MatchBool c.find.result (IsFound x.pattern.now x.graph.now (IsEarlier x.pattern.now (chosen x.search.levels.levels)) c.find.new.search)
-          (IsOver x.pattern.now x.graph.now (IsEarlier x.pattern.now (chosen x.search.levels.levels)) c.find.new.search)) w.finder-is c.find.ensures)
+          (IsOver x.pattern.now x.graph.now (IsEarlier x.pattern.now (chosen x.search.levels.levels)) c.find.new.search)) w.finder-is c.find.ensures.outcome)
     ]

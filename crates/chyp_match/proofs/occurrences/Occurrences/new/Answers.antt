@@ -8,4 +8,4 @@ pub returns : goal.returns
 returns c =
     let l = c.args.pattern.now in
     let g = c.args.graph.now in
-    ap (λ (n : ℕ). record { pattern = l; graph = g; given = n }) (ap (λ levels. length (given_of l g false (chosen levels))) c.in_ok-new.ensures.none ∙ given-none l g)
+    ap (λ (n : ℕ). record { pattern = l; graph = g; given = n }) (ap (λ levels. length (given_of l g false (chosen levels))) c.in_ok-new-2.ensures.none ∙ given-none l g)

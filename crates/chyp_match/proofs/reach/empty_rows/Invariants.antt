@@ -1,0 +1,8 @@
+use Rattle.std.proofs.Common.{◌≡◌, All, [], length}
+use Rattle.chyp_match.proofs.reach.empty_rows.Given as goal
+
+abbrev pub invariant-loop : goal.invariant-loop
+invariant-loop l = record {
+  count : length l.rows.items ≡ l.counter;
+  empty : All (λ row. row ≡ record { marks = []; room = l.count }) l.rows.items;
+}
