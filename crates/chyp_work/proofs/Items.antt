@@ -1,10 +1,10 @@
 -- Lists of items under distinct numbers.
-use Rattle.std.proofs.Common.{ℕ, suc, ◌+◌, ◌≡◌, ◌≢◌, Bool, true, false, cond, eqb, List, [], ◌∷◌, ◌++◌, map, filter, Option, Some, None, Bor, slice_get, ◌⊎◌, inl, inr, refl, sym, ◌∙◌, ap}
-use Rattle.std.proofs.Common.{subst, arith, eq-eqb, ne_eqb}
-use Rattle.std.specs.Prelude.{IsSome, option_copied, option_map}
+use Rattle.std.proofs.Common.{ℕ, ◌≡◌, ◌≢◌, Bool, true, false, cond, eqb, List, [], ◌∷◌, ◌++◌, map, filter, Option, Some, None, Bor, ◌⊎◌, inl, inr, refl, sym, ◌∙◌, ap}
+use Rattle.std.proofs.Common.{subst, eq-eqb, ne_eqb}
+use Rattle.std.specs.Prelude.{IsSome, option_copied}
 use Rattle.std.proofs.lemmas.Bool.{cases_eq}
 use Rattle.chyp_term.specs.Positions.{is_apart}
-use Rattle.chyp_term.proofs.Members.{Member, member-not_apart, not_member-apart}
+use Rattle.chyp_term.proofs.Members.{member-not_apart, not_member-apart}
 use Rattle.chyp_store.specs.Items.{AreDistinct, ids, item_at, with_item}
 use Rattle.chyp_match.specs.Listed.{ids_where}
 

@@ -4,6 +4,9 @@ pub mod Fillings
 pub mod Items
 pub mod Moving
 pub mod Nets
+pub mod Noting
+pub mod Opening
 pub mod Places
+pub mod Putting
 pub mod Rerouting
 pub mod Taking

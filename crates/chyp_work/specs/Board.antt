@@ -1,6 +1,6 @@
 -- How a graph by numbers is kept.
-use Rattle.std.specs.Prelude.{ℕ, ◌≡◌, ◌<◌, List, length, map, Some, IfSome, slice_get, slice_set}
-use Rattle.chyp_graph.specs.PlainGraph.{Edge}
+use Rattle.std.specs.Prelude.{ℕ, ◌≡◌, ◌<◌, ◌^◌, All, List, length, map, Some, IfSome, slice_get, slice_index, slice_set}
+use Rattle.chyp_graph.specs.PlainGraph.{Edge, renamed}
 use Rattle.chyp_base.specs.declared.sort.Sort.{Sort}
 use Rattle.smallvec.specs.SmallVec.{with_item as with_port}
 use Rattle.std.specs.Option.{option_map_or}
@@ -16,6 +16,14 @@ use Rattle.chyp_work.specs.declared.end.End.TheVariants.{Outside, Port}
 
 abbrev pub edge_of : EdgeItem → Edge
 edge_of item = record { name = item.name; sources = item.sources.items; targets = item.targets.items }
+
+-- the ports of the edge are places in a list of this length
+abbrev pub HasPortsBelow : ℕ → EdgeItem → Type 0
+HasPortsBelow n item = All (λ w. w < n) item.sources.items × All (λ w. w < n) item.targets.items
+
+-- the edge, whose ports are places in the list of wires, with these wires
+abbrev pub renamed_by : List ℕ → EdgeItem → Edge
+renamed_by ws item = renamed (slice_index ws) (edge_of item)
 
 abbrev pub edges_of : List (ℕ × EdgeItem) → List (ℕ × Edge)
 edges_of items = map (λ e. (e.0, edge_of e.1)) items
@@ -56,6 +64,8 @@ pub record IsWork (b : Board) : Type 0 where
   pub sound : IsSound (net b)
   pub filed : IsFiled b
   pub ends : KnowEnds b
+  pub few_edges : length b.edges.items < 2 ^ 31
+  pub few_wires : length b.wires.items < 2 ^ 31
 
 -- with w made at the end
 abbrev pub with_producer : Net → End → ℕ → Net

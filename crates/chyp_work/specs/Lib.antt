@@ -1,4 +1,5 @@
 pub mod Board
+pub mod Filling
 pub mod Net
 pub mod Replacement
 pub mod Rerouting

@@ -2,7 +2,7 @@
 use Rattle.std.specs.Prelude.{ℕ, ◌++◌, flat_map, cond, eqb, List, map, slice_set, All}
 use Rattle.std.specs.Option.{option_map_or, unwrap_or}
 use Rattle.chyp_term.specs.Positions.{place_of}
-use Rattle.chyp_graph.specs.PlainGraph.{Edge, PlainGraph, renamed}
+use Rattle.chyp_graph.specs.PlainGraph.{PlainGraph, renamed}
 use Rattle.chyp_graph.specs.Validity.{IsValid}
 use Rattle.chyp_store.specs.Items.{AreDistinct, ids, with_item}
 use Rattle.chyp_match.specs.View.{IsIn, Net, Seen}

@@ -1,8 +1,7 @@
 -- Replacement: an occurrence of one side of a rule goes, and the other side comes in its place.
-use Rattle.std.specs.Prelude.{ℕ, ◌+◌, ◌<◌, ◌≡◌, ◌⊎◌, true, List, ◌++◌, length, map, filter, Option, Some, None, slice_index}
+use Rattle.std.specs.Prelude.{ℕ, ◌<◌, ◌≡◌, ◌⊎◌, true, List, ◌++◌, length, map, filter, Some, slice_index}
 use Rattle.std.specs.List.{zip}
 use Rattle.std.specs.Option.{option_map_or}
-use Rattle.chyp_term.specs.Perm.{permuted, count_from}
 use Rattle.chyp_term.specs.Positions.{is_apart, place_of}
 use Rattle.chyp_graph.specs.PlainGraph.{Edge, PlainGraph, renamed}
 use Rattle.chyp_term.proofs.Members.{Member}

@@ -1,10 +1,10 @@
 // A graph by numbers, that may be invalid between two calls.
-ghost use Rattle.std.specs.Prelude.{◌≡◌, ℕ, ◌+◌, ◌<◌, ◌≤◌, List, [], ◌∷◌, ◌++◌, IfSome, None, OnOk, Some, length, map, true, vec_capacity};
+ghost use Rattle.std.specs.Prelude.{◌≡◌, ℕ, ◌+◌, ◌<◌, ◌≤◌, All, List, [], ◌∷◌, ◌++◌, IfSome, None, OnOk, Some, length, map, slice_index, true, vec_capacity};
 ghost use Rattle.std.specs.List.{zip};
 ghost use Rattle.smallvec.specs.SmallVec.{with_item as with_port};
 ghost use Rattle.chyp_term.proofs.Members.{Member};
 ghost use Rattle.chyp_term.specs.Positions.{is_among, place_of};
-ghost use Rattle.chyp_work.specs.Board.{IsFiled, MayConsume, MayProduce, consumed, edge_of, edges_of, loose_wire, net, produced, sourced, targeted, wires_of, with_consumer, with_producer};
+ghost use Rattle.chyp_work.specs.Board.{HasPortsBelow, IsFiled, MayConsume, MayProduce, consumed, edge_of, edges_of, loose_wire, net, produced, renamed_by, sourced, targeted, wires_of, with_consumer, with_producer};
 ghost use Rattle.chyp_store.specs.Items.{AreDistinct, item_at, without, without_all};
 ghost use Rattle.chyp_match.specs.View.{IsIn};
 ghost use Rattle.chyp_store.specs.Lists.{HasRows, list_of, room_of};
@@ -15,6 +15,7 @@ use chyp_base::{Name, NoMemory, Sort};
 use chyp_graph::{EdgeId, Graph, WireId};
 use chyp_store::{Lists, Store};
 use smallvec::SmallVec;
+use std::alloc::Global;
 
 /// Ports of an edge: mostly few.
 pub(crate) type Ports = SmallVec<WireId, 4>;
@@ -47,6 +48,23 @@ pub(crate) struct Board {
 }
 
 impl Board {
+    /// Nothing. It takes no memory.
+    pub(crate) fn new(alloc: Global) -> Board
+        ensures graph { net result ≡ record { edges = []; wires = []; inputs = []; outputs = [] } }
+        ensures edges { result.edges.items ≡ [] }
+        ensures wires { result.wires.items ≡ [] }
+        ensures filed { IsFiled result }
+    {
+        Board {
+            edges: Store::new(alloc),
+            wires: Store::new(alloc),
+            inputs: Vec::new(alloc),
+            outputs: Vec::new(alloc),
+            named: Lists::new(alloc),
+            sorted: Lists::new(alloc),
+        }
+    }
+
     /// Takes the memory for the wires and the edges of this graph. Where there is none, nothing that
     /// is shown has changed.
     pub(crate) fn reserve(&mut self, graph: &Graph) -> Result<(), NoMemory>
@@ -237,7 +255,8 @@ impl Board {
     }
 }
 
-fn note_producer(wires: &mut Store<WireItem>, w: WireId, end: End)
+/// Notes that this end makes the wire.
+pub(crate) fn note_producer(wires: &mut Store<WireItem>, w: WireId, end: End)
     ensures items { wires.new.items ≡ produced w end wires.old.items }
     ensures rest { wires.new ≡ record wires.old { items = wires.new.items } }
 {
@@ -250,7 +269,8 @@ fn note_producer(wires: &mut Store<WireItem>, w: WireId, end: End)
     }
 }
 
-fn note_consumer(wires: &mut Store<WireItem>, w: WireId, end: End)
+/// Notes that this end uses the wire.
+pub(crate) fn note_consumer(wires: &mut Store<WireItem>, w: WireId, end: End)
     ensures items { wires.new.items ≡ consumed w end wires.old.items }
     ensures rest { wires.new ≡ record wires.old { items = wires.new.items } }
 {
@@ -364,7 +384,7 @@ pub(crate) fn add_wires(board: &mut Board, sorts: Vec<Sort>, numbers: &mut Vec<W
     requires places { length sorts.items ≤ vec_capacity numbers.old }
     requires room { length sorts.items ≤ board.old.wires.room }
     requires rows { HasRows (λ sort. sort.name) sorts.items (length sorts.items) board.old.sorted }
-    ensures wires { wires_of board.new.wires.items ≡ wires_of board.old.wires.items ++ zip numbers.new.items sorts.items }
+    ensures wires { board.new.wires.items ≡ board.old.wires.items ++ zip numbers.new.items (map loose_wire sorts.items) }
     ensures count { length numbers.new.items ≡ length sorts.items }
     ensures rest { board.new ≡ record board.old { wires = board.new.wires; sorted = board.new.sorted } }
     ensures filed { IsFiled board.new }
@@ -375,20 +395,49 @@ pub(crate) fn add_wires(board: &mut Board, sorts: Vec<Sort>, numbers: &mut Vec<W
     }
 }
 
-/// Adds these edges, and notes their numbers. It takes no memory.
-pub(crate) fn add_edges(board: &mut Board, items: Vec<EdgeItem>, numbers: &mut Vec<EdgeId>)
+/// The edge, whose ports are places in the list of wires, with these wires.
+fn renamed(item: EdgeItem, wires: &[WireId]) -> EdgeItem
+    requires { HasPortsBelow (length wires.now) item }
+    ensures { edge_of result ≡ renamed_by wires.now item }
+{
+    let mut item = item;
+    rename(item.sources.as_mut_slice(), wires);
+    rename(item.targets.as_mut_slice(), wires);
+    item
+}
+
+/// Puts the wire at each place in place of the place.
+pub(crate) fn rename(places: &mut [WireId], wires: &[WireId])
+    requires { All (λ w. w < length wires.now) places.old }
+    ensures { places.new ≡ map (slice_index wires.now) places.old }
+{
+    for place in places.iter_mut() {
+        *place = wires[place.0 as usize];
+    }
+}
+
+/// Adds these edges, whose ports are places in the list of wires, and notes their numbers. It takes no
+/// memory.
+pub(crate) fn add_edges(
+    board: &mut Board,
+    items: Vec<EdgeItem>,
+    wires: &[WireId],
+    numbers: &mut Vec<EdgeId>,
+)
     requires filed { IsFiled board.old }
+    requires within { All (HasPortsBelow (length wires.now)) items.items }
     requires none { numbers.old.items ≡ [] }
     requires places { length items.items ≤ vec_capacity numbers.old }
     requires room { length items.items ≤ board.old.edges.room }
     requires rows { HasRows (λ item. item.name) items.items (length items.items) board.old.named }
-    ensures edges { edges_of board.new.edges.items ≡ edges_of board.old.edges.items ++ zip numbers.new.items (map edge_of items.items) }
+    ensures edges { edges_of board.new.edges.items ≡ edges_of board.old.edges.items ++ zip numbers.new.items
+        (map (renamed_by wires.now) items.items) }
     ensures count { length numbers.new.items ≡ length items.items }
     ensures rest { board.new ≡ record board.old { edges = board.new.edges; named = board.new.named } }
     ensures filed { IsFiled board.new }
 {
     for item in items {
-        let k = board.add_edge(item);
+        let k = board.add_edge(renamed(item, wires));
         numbers.push_reserved(k);
     }
 }

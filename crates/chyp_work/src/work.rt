@@ -1,16 +1,16 @@
 // Graphs that are rewritten in place.
-ghost use Rattle.std.specs.Prelude.{◌≡◌, ◌<◌, ◌↔◌, All, Contains, IfSome, IsNone, Some, []};
+ghost use Rattle.std.specs.Prelude.{◌≡◌, ◌<◌, ◌↔◌, All, Contains, IfOk, IfSome, IsNone, Some, []};
 ghost use Rattle.chyp_graph.specs.Graph.{lent_edge};
 ghost use Rattle.chyp_match.specs.View.{IsIn, IsSeen, named_in, net_of, sorted_in, source_in, target_in};
 ghost use Rattle.chyp_store.specs.Items.{item_at};
-ghost use Rattle.chyp_work.specs.Net.{IsSound, seen_of};
+ghost use Rattle.chyp_work.specs.Net.{IsSound, plain, seen_of};
 
 use crate::board::Board;
 use crate::end::End;
-use chyp_base::{Name, Sort};
-use chyp_graph::{EdgeId, EdgeView, WireId};
+use crate::filling::board_of;
+use chyp_base::{Name, NoMemory, Sort};
+use chyp_graph::{EdgeId, EdgeView, Graph, WireId};
 use chyp_match::View;
-use chyp_store::{Lists, Store};
 use std::alloc::Global;
 use std::marker::Model;
 
@@ -39,15 +39,21 @@ impl Work {
         ensures { result ≡ record { edges = []; wires = []; inputs = []; outputs = [] } }
     {
         Work {
-            board: Board {
-                edges: Store::new(alloc),
-                wires: Store::new(alloc),
-                inputs: Vec::new(alloc),
-                outputs: Vec::new(alloc),
-                named: Lists::new(alloc),
-                sorted: Lists::new(alloc),
-            },
+            board: Board::new(alloc),
         }
+    }
+
+    /// The same graph, under numbers. It takes time and memory in proportion to the graph.
+    ///
+    /// # Errors
+    ///
+    /// `NoMemory` where the graph can't be kept.
+    pub fn of(graph: &Graph) -> Result<Work, NoMemory>
+        ensures { IfOk result (λ work. plain work ≡ graph.now) }
+    {
+        Ok(Work {
+            board: board_of(graph)?,
+        })
     }
 
     /// Every such graph is valid.

@@ -1,10 +1,9 @@
 use Rattle.std.proofs.Common.{◌≡◌, ◌+◌, ◌∷◌, [], ◌++◌, length, refl, ap, ◌∙◌, append_assoc, arith, suc, length-append}
 use Rattle.chyp_work.specs.declared.board.Board.{Board}
-use Rattle.chyp_work.specs.declared.end.End.TheVariants.{Outside}
 use Rattle.std.specs.Vec.Iter.{into_iter_items}
 use Rattle.chyp_base.specs.declared.sort.Sort.{Sort}
-use Rattle.chyp_work.specs.declared.board.WireItem.{WireItem}
-use Rattle.chyp_work.proofs.Fillings.{filled-more, rows-less}
+use Rattle.chyp_work.specs.Board.{loose_wire}
+use Rattle.chyp_work.proofs.Fillings.{filled-exact, rows-less}
 use Rattle.chyp_work.proofs.board.add_wires.Goals as goal
 
 pub add_wire-w-requires-clause-filed : goal.add_wire-w-requires-clause-filed
@@ -39,9 +38,8 @@ loop-sort-preserved c =
     record {
       whole = append_assoc at.yielded (c.in-Some.sort ∷ []) _ ∙ rw (← steps) i.whole;
       left = let was = i.left in let gone = c.in-Some.ensures.steps.1 in omega arith;
-      wires = filled-more (λ (item : WireItem). item.sort) at.board.wires.items c.add_wire-w.new.self.wires.items c.args.board.now.wires.items at.numbers.items c.push_reserved.new.self.items
-          at.yielded c.add_wire-w.result
-          (record { sort = c.in-Some.sort; producer = Outside 0; consumer = Outside 0 }) i.wires e.wires p.items i.count;
+      wires = filled-exact loose_wire at.board.wires.items c.add_wire-w.new.self.wires.items c.args.board.now.wires.items at.numbers.items c.push_reserved.new.self.items
+          at.yielded c.add_wire-w.result c.in-Some.sort i.wires e.wires p.items i.count;
       count = let k = i.count in omega (arith, longer, more, k);
       rest = e.rest ∙ ap (λ (b : Board). record b { wires = c.add_wire-w.new.self.wires; sorted = c.add_wire-w.new.self.sorted }) i.rest;
       filed = e.filed;
