@@ -7,6 +7,7 @@ pub mod Nets
 pub mod Noting
 pub mod Opening
 pub mod Places
+pub mod Placing
 pub mod Putting
 pub mod Rerouting
 pub mod Taking

@@ -1,5 +1,6 @@
 -- Ends of wires that are noted.
-use Rattle.std.proofs.Common.{ℕ, zero, suc, ◌+◌, ◌≡◌, ◌≢◌, Bool, true, false, cond, eqb, List, [], ◌∷◌, ◌++◌, take, Option, Some, None, slice_get, ◌⊎◌, inl, inr, refl, sym, ◌∙◌, ap, subst, arith, append-nil, eq-eqb, ne_eqb}
+use Rattle.std.proofs.Common.{ℕ, zero, suc, ◌+◌, ◌≡◌, ◌≢◌, Bool, true, false, cond, eqb, List, [], ◌∷◌, ◌++◌, take, Option, Some, None, slice_get, ◌⊎◌}
+use Rattle.std.proofs.Common.{inl, inr, refl, sym, ◌∙◌, ap, subst, arith, append-nil, eq-eqb, ne_eqb}
 use Rattle.std.specs.Option.{option_map_or}
 use Rattle.std.proofs.lemmas.Bool.{cases_eq}
 use Rattle.chyp_term.proofs.Members.{Member, member-not_apart, member-split}
@@ -208,4 +209,5 @@ inputs-known b inputs noted m w t = now-known producer consumer (IsProducer (net
 
 pub outputs-known : (b : Board) (outputs : Vec ℕ Global) (noted : Store WireItem) → AreNoted (IsUsed (end_of None) outputs.items) b.wires.items noted.items
     → (w : ℕ) → Member w outputs.items → KnowsUser (record b { wires = noted; outputs = outputs }) w
-outputs-known b outputs noted m w t = now-known consumer producer (IsConsumer (net (record b { wires = noted; outputs = outputs }))) (end_of None) outputs.items b.wires.items noted.items m (λ i v g. g) w t
+outputs-known b outputs noted m w t = now-known consumer producer (IsConsumer (net (record b { wires = noted; outputs = outputs })))
+    (end_of None) outputs.items b.wires.items noted.items m (λ i v g. g) w t

@@ -96,7 +96,8 @@ module _ (g : PlainGraph) (ds vs : List ℕ) (valid : IsValid g) (edge_count : l
   plain-fresh =
       let k = ids-zip vs g.wires wire_count in
       let w = items-zip vs g.wires wire_count in
-      let e = ap (λ ks. map (λ (e : ℕ × Edge). renamed (place_in ks) e.1) (zip ds (map (renamed (slice_index vs)) g.edges))) k ∙ edges-back (place_in vs) (slice_index vs) ds g.edges edge_count edge-back in
+      let e = ap (λ ks. map (λ (e : ℕ × Edge). renamed (place_in ks) e.1) (zip ds (map (renamed (slice_index vs)) g.edges))) k ∙ edges-back (place_in vs)
+      (slice_index vs) ds g.edges edge_count edge-back in
       let i = ap (λ ks. map (place_in ks) (map (slice_index vs) g.inputs)) k ∙ all-back g.inputs (input-below g valid) in
       let o = ap (λ ks. map (place_in ks) (map (slice_index vs) g.outputs)) k ∙ all-back g.outputs (output-below g valid) in
       λ j. record { wires = w j; edges = e j; inputs = i j; outputs = o j }
@@ -194,7 +195,8 @@ pub record GetsOutputs (b c : Board) (os : List ℕ) : Type 0 where
   pub users : (w : ℕ) → Member w os → KnowsUser c w
   pub makers : (w : ℕ) → KnowsMaker b w → KnowsMaker c w
 
-module _ (g : PlainGraph) (a b c d : Board) (ds vs is os : List ℕ) (i : GetsInputs b c is) (o : GetsOutputs c d os) (p : is ≡ map (slice_index vs) g.inputs) (q : os ≡ map (slice_index vs) g.outputs) where
+module _ (g : PlainGraph) (a b c d : Board) (ds vs is os : List ℕ) (i : GetsInputs b c is) (o : GetsOutputs c d os) (p : is ≡ map (slice_index vs) g.inputs) (q : os ≡ map
+    (slice_index vs) g.outputs) where
   opened : net a ≡ record { edges = []; wires = []; inputs = []; outputs = [] } → net b ≡ with_graph (net a) g ds vs → net d ≡ fresh g ds vs
   opened n t = λ j. record { edges = e j; wires = w j; inputs = x j; outputs = y j }
     where

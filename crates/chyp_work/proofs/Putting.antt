@@ -36,7 +36,7 @@ get-there [] i h = absurd (omega arith)
 get-there (x ∷ xs) zero h = (x, refl)
 get-there (x ∷ xs) (suc i) h = get-there xs i (omega arith)
 
-all-unmap : {A B : Type 0} (P : B → Type 0) (f : A → B) (xs : List A) → All P (map f xs) → All (λ x. P (f x)) xs
+pub all-unmap : {A B : Type 0} (P : B → Type 0) (f : A → B) (xs : List A) → All P (map f xs) → All (λ x. P (f x)) xs
 all-unmap P f xs a = All-from_get_members {P = λ x. P (f x)} xs (λ x m. let g = member-get xs x m in all-get P (map f xs) g.0 (f x) a (get-map f xs g.0 x g.1))
 
 member-zip : {X : Type 0} (ds : List ℕ) (xs : List X) (j k : ℕ) (x : X) → slice_get ds j ≡ Some k → slice_get xs j ≡ Some x → Member (k, x) (zip ds xs)
@@ -108,7 +108,8 @@ module _ (a b : Board) (g : PlainGraph) (ds vs : List ℕ) (t : Takes a b g ds v
   apart = rw (← t.edges, ids-map edge_of b.edges.items) t.apart
 
   -- the edge at a place is under the number at that place
-  found : (j k : ℕ) (e : Edge) → slice_get ds j ≡ Some k → slice_get (map (renamed (slice_index vs)) g.edges) j ≡ Some e → (item : EdgeItem) × (item_at k b.edges.items ≡ Some item) × (edge_of item ≡ e)
+  found : (j k : ℕ) (e : Edge) → slice_get ds j ≡ Some k → slice_get (map (renamed (slice_index vs)) g.edges) j ≡ Some e → (item : EdgeItem) × (item_at k b.edges.items ≡ Some item) ×
+      (edge_of item ≡ e)
   found j k e h i = item-of edge_of k b.edges.items e (rw t.edges (found-behind (edges_of a.edges.items) ds (map (renamed (slice_index vs)) g.edges) apart j k e h i))
 
   -- the new edges have few ports
@@ -149,7 +150,8 @@ module _ (a b : Board) (g : PlainGraph) (ds vs : List ℕ) (t : Takes a b g ds v
         e = ap (λ (d : Board). edges_of d.edges.items) k.rest ∙ t.edges
 
         w : wires_of c.wires.items ≡ wires_of a.wires.items ++ zip vs g.wires
-        w = k.sorts ∙ ap wires_of t.wires ∙ map-append (λ (e : ℕ × WireItem). (e.0, e.1.sort)) a.wires.items (zip vs (map loose_wire g.wires)) ∙ ap (λ l. wires_of a.wires.items ++ l) (loose vs g.wires)
+        w = k.sorts ∙ ap wires_of t.wires ∙ map-append (λ (e : ℕ × WireItem). (e.0, e.1.sort)) a.wires.items (zip vs (map loose_wire g.wires)) ∙ ap (λ l. wires_of a.wires.items ++ l)
+            (loose vs g.wires)
           where
             loose : (vs : List ℕ) (ss : List Sort) → wires_of (zip vs (map loose_wire ss)) ≡ zip vs ss
             loose [] ss = refl
@@ -164,11 +166,13 @@ module _ (a b : Board) (g : PlainGraph) (ds vs : List ℕ) (t : Takes a b g ds v
 
     pub taken-makers : (w : ℕ) → IsIn w a.wires.items → KnowsMaker a w → KnowsMaker c w
     taken-makers w there known = k.makers w
-        (λ item h. producer-more (net a) (net b) (zip ds (map (renamed (slice_index vs)) g.edges)) t.edges (ap (λ (l : Vec ℕ Global). l.items) t.inputs) w item.producer (known item (old-item w item there h)))
+        (λ item h. producer-more (net a) (net b) (zip ds (map (renamed (slice_index vs)) g.edges)) t.edges (ap (λ (l : Vec ℕ Global). l.items) t.inputs) w item.producer (known item
+        (old-item w item there h)))
 
     pub taken-users : (w : ℕ) → IsIn w a.wires.items → KnowsUser a w → KnowsUser c w
     taken-users w there known = k.users w
-        (λ item h. consumer-more (net a) (net b) (zip ds (map (renamed (slice_index vs)) g.edges)) t.edges (ap (λ (l : Vec ℕ Global). l.items) t.outputs) w item.consumer (known item (old-item w item there h)))
+        (λ item h. consumer-more (net a) (net b) (zip ds (map (renamed (slice_index vs)) g.edges)) t.edges (ap (λ (l : Vec ℕ Global). l.items) t.outputs) w item.consumer (known item
+        (old-item w item there h)))
 
   module _ (c : Board) (ks : List ℕ) (q : ks ≡ ds) where
     pub new-makers : ((k w : ℕ) (e : EdgeItem) → Member k ks → item_at k b.edges.items ≡ Some e → Member w e.targets.items → KnowsMaker c w)

@@ -8,6 +8,7 @@ ghost use Rattle.chyp_work.specs.Net.{IsSound, plain, seen_of};
 use crate::board::Board;
 use crate::end::End;
 use crate::filling::board_of;
+use crate::plain::graph_of;
 use chyp_base::{Name, NoMemory, Sort};
 use chyp_graph::{EdgeId, EdgeView, Graph, WireId};
 use chyp_match::View;
@@ -54,6 +55,18 @@ impl Work {
         Ok(Work {
             board: board_of(graph)?,
         })
+    }
+
+    /// The plain graph, made anew: each wire has its place in the order as its number. It takes time and
+    /// memory in proportion to the graph.
+    ///
+    /// # Errors
+    ///
+    /// `NoMemory` where the graph can't be kept.
+    pub fn graph(&self) -> Result<Graph, NoMemory>
+        ensures { IfOk result (λ graph. graph ≡ plain self.now) }
+    {
+        graph_of(&self.board)
     }
 
     /// Every such graph is valid.

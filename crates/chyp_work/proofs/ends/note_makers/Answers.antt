@@ -19,6 +19,7 @@ loop-i-preserved c =
     record {
       items = noted-more (λ (item : WireItem). item.producer) (λ (item : WireItem). item.consumer) (λ end (item : WireItem). record item { producer = end }) (λ _ _. refl) (λ _ _. refl)
           (end_of c.args.edge) c.args.ports.now i w c.args.wires.now.items c.loop-i.wires.items c.note_producer.new.wires.items
-          (get-item c.args.ports.now i w c.loop-i-test.true c.index-ports-i.is) c.loop-i.invariant.items e (ap wires_of e ∙ produced-sorts w (end_of c.args.edge i) c.loop-i.wires.items c.apart.ensures);
+          (get-item c.args.ports.now i w c.loop-i-test.true c.index-ports-i.is) c.loop-i.invariant.items e (ap wires_of e ∙ produced-sorts w
+          (end_of c.args.edge i) c.loop-i.wires.items c.apart.ensures);
       rest = c.note_producer.ensures.rest ∙ ap (λ (s : Store WireItem). record s { items = c.note_producer.new.wires.items }) c.loop-i.invariant.rest;
     }

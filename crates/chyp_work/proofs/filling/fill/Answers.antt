@@ -29,4 +29,5 @@ returns c =
     (rw c.deref.ensures.value at c.rename.ensures))
     (all-renamed f ends.outputs.len ends.outputs.items c.deref_mut-2.result.now c.rename-2.new.places g.outputs ends.outputs.ok.0 c.deref_mut-2.ensures.value c.requires.outputs
     (rw c.deref-2.ensures.value at c.rename-2.ensures))
-    c.valid.ensures.valid c.valid.ensures.few_wires c.valid.ensures.few_edges p.edge_count p.wire_count c.requires.nothing p.graph p.wires_apart p.edges_apart (o.filed (i.filed p.filed)) p.makers p.users
+    c.valid.ensures.valid c.valid.ensures.few_wires c.valid.ensures.few_edges p.edge_count p.wire_count c.requires.nothing p.graph p.wires_apart p.edges_apart (o.filed
+    (i.filed p.filed)) p.makers p.users
