@@ -11,3 +11,5 @@ pub mod Placing
 pub mod Putting
 pub mod Rerouting
 pub mod Taking
+pub mod Turns
+pub mod Uses

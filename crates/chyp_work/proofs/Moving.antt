@@ -9,7 +9,7 @@ use Rattle.chyp_work.specs.Net.{put}
 use Rattle.chyp_work.specs.Rerouting.{MovesInTurn}
 
 -- the place of x in a list with one more number
-abbrev place_with : ℕ → ℕ → ℕ → Option ℕ → Option ℕ
+abbrev pub place_with : ℕ → ℕ → ℕ → Option ℕ → Option ℕ
 place_with x w n None = cond (eqb w x) (Some n) None
 place_with x w n (Some j) = Some j
 
@@ -21,7 +21,7 @@ suc-with x w n None = by (eqb w x) refl
     by true e = rw e refl
     by false e = rw e refl
 
-place-push : (x w : ℕ) (ks : List ℕ) → place_of x (ks ++ w ∷ []) ≡ place_with x w (length ks) (place_of x ks)
+pub place-push : (x w : ℕ) (ks : List ℕ) → place_of x (ks ++ w ∷ []) ≡ place_with x w (length ks) (place_of x ks)
 place-push x w [] = refl
 place-push x w (k ∷ ks) = by (eqb k x) refl (place-push x w ks)
   where
@@ -30,7 +30,7 @@ place-push x w (k ∷ ks) = by (eqb k x) refl (place-push x w ks)
     by true e r = rw e refl
     by false e r = rw (e, r) (suc-with x w (length ks) (place_of x ks))
 
-length-front : {A : Type 0} (xs : List A) (i : ℕ) (a : A) → slice_get xs i ≡ Some a → length (take i xs) ≡ i
+pub length-front : {A : Type 0} (xs : List A) (i : ℕ) (a : A) → slice_get xs i ≡ Some a → length (take i xs) ≡ i
 length-front [] i a h = absurd (cc)
 length-front (x ∷ xs) zero a h = refl
 length-front (x ∷ xs) (suc i) a h = ap suc (length-front xs i a h)

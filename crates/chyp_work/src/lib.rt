@@ -14,6 +14,7 @@ mod filling;
 mod laws;
 mod parts;
 mod plain;
+mod rewiring;
 mod work;
 
 pub use laws::{replaced_by_numbers, reroutes_are_substitutions};
