@@ -99,7 +99,8 @@ IsMade IsGiven report status steps steps_now = Gives IsGiven (λ output. (report
 agree-read : (texts : Texts) (text : List ℕ) (modules : List Module) → ListsAll text modules → All (IsRead texts text) modules
     → AgreeFrom (with_main (library_of modules) text) (with_main texts text) []
 agree-read texts text modules lists read =
-    agree-main (library_of modules) texts text (λ name r. listed-agrees modules texts (All-weaker (IsRead texts text) (λ (m : Module). m.1 ≡ texts m.0) (λ m is. is.told) modules read) name (lists name r))
+    let told = All-weaker (IsRead texts text) (λ (m : Module). m.1 ≡ texts m.0) (λ m is. is.told) modules read in
+    agree-main (library_of modules) texts text (λ name r. listed-agrees modules texts told name (lists name r))
 
 -- what is known once all modules were read and none is too long
 pub record HasRead (texts : Texts) (text : List ℕ) (modules : List Module) : Type 0 where

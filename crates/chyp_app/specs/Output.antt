@@ -43,8 +43,8 @@ output_of text tokens chunks verdicts checks = record {
 -- statements of the text and of those modules.
 pub data IsCheck (texts : Texts) (text : List ℕ) : Output → Type 0 where
   too_long : Results texts text too_long' → IsCheck texts text (nothing_but TooLong)
-  checked : {tokens : List Token} {chunks : List Chunk} {verdicts : List Verdict} {checks : ℕ} → AreTokens text tokens → AreChunks tokens chunks
-      → Results texts text (checked' verdicts checks) → IsCheck texts text (output_of text tokens chunks verdicts checks)
+  checked : {tokens : List Token} {chunks : List Chunk} {verdicts : List Verdict} {checks : ℕ} → AreTokens text tokens
+      → AreChunks tokens chunks → Results texts text (checked' verdicts checks) → IsCheck texts text (output_of text tokens chunks verdicts checks)
 
 -- the report and the status are those of the verdicts that the statements of the text get
 pub record IsReport (texts : Texts) (text report : List ℕ) (status : Status) : Type 0 where

@@ -483,15 +483,15 @@ fn modules_in_a_row_are_read(rt: HostRuntime) -> Result<(), Fail> {
     Ok(())
 }
 
-const TEXT: &[u8] = b"rewrite n : sw ; sw = id * id";
+const TEXT: &[u8] = b"gen f : 1 -> 1\ngen g : 1 -> 1\nrewrite n : f * g ; sw = sw ; g * f\n";
 
-const REPORT: &[u8] = b"1:1 rewrite n proved\ntotal 1 good 1\n";
+const REPORT: &[u8] = b"1:1 gen f ok\n2:1 gen g ok\n3:1 rewrite n proved\ntotal 3 good 3\n";
 
 #[test]
 fn a_read_fault_ends_the_run(rt: HostRuntime) -> Result<(), Fail> {
     let alloc = rt.alloc();
-    // In pieces of 4 bytes the text takes 8 reads, and one that finds the end.
-    for failing in 0..9 {
+    // In pieces of 4 bytes the text takes 17 reads, and one that finds the end.
+    for failing in 0..18 {
         let source = MemSource::new(TEXT.to_vec(alloc)?, 4, [failing].to_vec(alloc)?);
         let mut sink = MemSink::new(alloc, 100, 100, Vec::new(alloc))?;
         let status = run_alone(alloc, &["check"], source, &mut sink);

@@ -83,7 +83,8 @@ get-number [] place h = absurd (omega arith)
 get-number (x ∷ xs) zero h = refl
 get-number (x ∷ xs) (suc place) h = get-number xs place (omega arith)
 
-module _ (project : Project) (mapped : IsMapped project) (order : List ℕ) (is : IsOrder project order) (place number : ℕ) (h : place < length order) (at : number ≡ slice_index_or order place number) where
+module _ (project : Project) (mapped : IsMapped project) (order : List ℕ) (is : IsOrder project order)
+    (place number : ℕ) (h : place < length order) (at : number ≡ slice_index_or order place number) where
   taken : take (place + 1) order ≡ take place order ++ number ∷ []
   taken = take_more order place number h at
 
@@ -122,7 +123,8 @@ module _ (project : Project) (mapped : IsMapped project) (order : List ℕ) (is 
       placed : (other : ℕ) → ((other ≡ number) × (slice_index_or envs_now other None ≡ Some env)) ⊎ (¬ (other ≡ number) × (slice_index_or envs_now other None ≡ slice_index_or envs other None))
       placed other = go (cases_lt other number) (cases_lt number other)
         where
-          apart : ¬ (other ≡ number) → ((other ≡ number) × (slice_index_or envs_now other None ≡ Some env)) ⊎ (¬ (other ≡ number) × (slice_index_or envs_now other None ≡ slice_index_or envs other None))
+          apart : ¬ (other ≡ number) → ((other ≡ number) × (slice_index_or envs_now other None ≡ Some env))
+              ⊎ (¬ (other ≡ number) × (slice_index_or envs_now other None ≡ slice_index_or envs other None))
           apart differ = inr (differ, ap (λ xs. slice_index_or xs other None) grown ∙ set-other envs number other (Some env) None differ)
 
           go : (other < number) ⊎ (number ≤ other) → (number < other) ⊎ (other ≤ number)
@@ -135,7 +137,8 @@ module _ (project : Project) (mapped : IsMapped project) (order : List ℕ) (is 
               let within = number-within in
               inl (same, ap (λ k. slice_index_or envs_now k None) same ∙ ap (λ xs. slice_index_or xs number None) grown ∙ set-same envs number (Some env) None (omega arith))
 
-      each : (other : ℕ) (e : List Binding) → ((other ≡ number) × (slice_index_or envs_now other None ≡ Some env)) ⊎ (¬ (other ≡ number) × (slice_index_or envs_now other None ≡ slice_index_or envs other None))
+      each : (other : ℕ) (e : List Binding) → ((other ≡ number) × (slice_index_or envs_now other None ≡ Some env))
+          ⊎ (¬ (other ≡ number) × (slice_index_or envs_now other None ≡ slice_index_or envs other None))
           → slice_index_or envs_now other None ≡ Some e → HasEnvironment V (name_at project.nodes other) e
       each other e (inl p) f =
           let same : env ≡ e = some-once (slice_index_or envs_now other None) env e p.1 f in
@@ -163,7 +166,8 @@ all-wanted project mapped square some main order is names wanted = (into, back)
         let m = Contains-from_map (λ (k : ℕ). name_at project.nodes k) order name c in
         let known = is.only m.0 m.1 in
         let reached = subst (λ n. Reaches V n (name_at project.nodes m.0)) main ((mapped.reflects 0 m.0 some known.0).0 known.1) in
-        wanted.1 name (text_at project.nodes m.0) (subst (λ n. IsWanted V n (text_at project.nodes m.0)) m.2 (record { reached = reached; there = library-at project.nodes mapped.distinct m.0 known.0 }))
+        wanted.1 name (text_at project.nodes m.0)
+        (subst (λ n. IsWanted V n (text_at project.nodes m.0)) m.2 (record { reached = reached; there = library-at project.nodes mapped.distinct m.0 known.0 }))
 
     back : (name : List ℕ) → Contains names name → Contains (names_by project order) name
     back name c =

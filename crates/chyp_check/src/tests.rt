@@ -21,7 +21,7 @@ struct Case {
     verdicts: &'static str,
 }
 
-const CASES: [Case; 11] = [
+const CASES: [Case; 12] = [
     // No module at all.
     Case {
         text: b"gen f : 1 -> 1 gen g : 1 -> 1 rewrite x : f * g = g * f",
@@ -73,6 +73,15 @@ const CASES: [Case; 11] = [
         text: b"import a as p import a as q rewrite x : p.f = q.f",
         modules: &[("a", b"gen f : 1 -> 1")],
         verdicts: "aap",
+    },
+    // A module that passes on another under two prefixes.
+    Case {
+        text: b"import r rewrite x : p.f = q.f",
+        modules: &[
+            ("r", b"import a as p import a as q"),
+            ("a", b"gen f : 1 -> 1"),
+        ],
+        verdicts: "ap",
     },
     // Names of two modules that are one behind no prefix.
     Case {

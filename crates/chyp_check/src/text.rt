@@ -105,7 +105,8 @@ fn check_each<G: Ledger>(
     requires ready { IsReady project.now envs.now number }
     requires text { statements.now.text ≡ text_at project.now.nodes number }
     ensures env { IfOk result (λ checked. HasEnvironment (library_in project.now.nodes) (name_at project.now.nodes number) checked.env) }
-    ensures verdicts { IfOk result (λ checked. AreVerdicts (library_in project.now.nodes) (name_at project.now.nodes number) checked.verdicts) }
+    ensures verdicts { IfOk result (λ checked.
+        AreVerdicts (library_in project.now.nodes) (name_at project.now.nodes number) checked.verdicts) }
     ensures steps { OnOk result (steps.new ≡ steps.old + length statements.now.chunks) }
     ensures rises { steps.old ≤ steps.new }
     ensures no_more { OnErr result (steps.new ≤ steps.old + length statements.now.chunks) }
@@ -140,7 +141,8 @@ pub(crate) fn check_statements<G: Ledger>(
     requires ready { IsReady project.now envs.now number }
     requires text { statements.now.text ≡ text_at project.now.nodes number }
     ensures env { IfOk result (λ checked. HasEnvironment (library_in project.now.nodes) (name_at project.now.nodes number) checked.env) }
-    ensures verdicts { IfOk result (λ checked. AreVerdicts (library_in project.now.nodes) (name_at project.now.nodes number) checked.verdicts) }
+    ensures verdicts { IfOk result (λ checked.
+        AreVerdicts (library_in project.now.nodes) (name_at project.now.nodes number) checked.verdicts) }
     ensures steps { (n : ℕ) → HaveStatements (library_in project.now.nodes) (name_at project.now.nodes number ∷ []) n
         → OnOk result (steps.new ≡ steps.old + n) }
     ensures rises { steps.old ≤ steps.new }
@@ -166,7 +168,8 @@ pub(crate) fn check_text<G: Ledger>(
     requires made { AreMade project.now envs.now }
     requires ready { IsReady project.now envs.now number }
     ensures env { IfOk result (λ checked. HasEnvironment (library_in project.now.nodes) (name_at project.now.nodes number) checked.env) }
-    ensures verdicts { IfOk result (λ checked. AreVerdicts (library_in project.now.nodes) (name_at project.now.nodes number) checked.verdicts) }
+    ensures verdicts { IfOk result (λ checked.
+        AreVerdicts (library_in project.now.nodes) (name_at project.now.nodes number) checked.verdicts) }
     ensures steps { (n : ℕ) → HaveStatements (library_in project.now.nodes) (name_at project.now.nodes number ∷ []) n
         → OnOk result (steps.new ≡ steps.old + n) }
     ensures rises { steps.old ≤ steps.new }

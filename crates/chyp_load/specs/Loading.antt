@@ -45,7 +45,8 @@ pub record WantsMore (text : Option (List ℕ)) (wanted wanted_now : List (List 
   pub few : length imports ≤ text_limit
 
 -- One module more was read, as the library tells it, and what its text imports is wanted from then on.
-pub record IsOneMore (told : Option Library) (name : List ℕ) (modules modules_now : List Module) (wanted wanted_now : List (List ℕ)) : Type 0 where
+pub record IsOneMore (told : Option Library) (name : List ℕ) (modules modules_now : List Module)
+    (wanted wanted_now : List (List ℕ)) : Type 0 where
   pub text : Option (List ℕ)
   pub imports : List (List ℕ)
   pub listed : modules_now ≡ modules ++ (name, text) ∷ []
