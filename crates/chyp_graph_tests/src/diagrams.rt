@@ -4,6 +4,7 @@ ghost use Rattle.chyp_term.specs.Limits.{IsWithinLimits, most_size};
 ghost use Rattle.chyp_term.specs.Measure.{size_of};
 ghost use Rattle.chyp_term.specs.Morphism.{IsTyped};
 ghost use Rattle.chyp_term.specs.Term.{morphism_of};
+ghost use Rattle.chyp_graph.specs.GraphOf.{graph_of};
 
 use chyp_base::{Name, NoMemory, Sort, Sorts};
 use chyp_graph::{EdgeId, Graph, WireId};
@@ -156,10 +157,35 @@ pub(crate) fn checked(alloc: Global, term: Term) -> Result<Term, Fail>
     Err(Fail::new("no typed term within the limits"))
 }
 
+/// The graph of a term.
+pub(crate) fn graph_of(alloc: Global, term: &Term) -> Result<Graph, Fail>
+    requires typed { IsTyped (morphism_of term.now) }
+    requires small { size_of (morphism_of term.now) ≤ most_size }
+    ensures { IfOk result (λ graph. graph ≡ graph_of (morphism_of term.now)) }
+{
+    Ok(Graph::of_term(alloc, term)?)
+}
+
 /// The graph of the term of these words.
 pub(crate) fn graph(alloc: Global, words: &str) -> Result<Graph, Fail> {
     let term = typed(alloc, words)?;
-    Ok(Graph::of_term(alloc, &term)?)
+    let graph = graph_of(alloc, &term);
+    // As a call, it takes one step of the proof.
+    drop(term);
+    graph
+}
+
+/// The graph of the term of these words, in words.
+pub(crate) fn graph_in_words(alloc: Global, words: &str) -> Result<String, Fail> {
+    let graph = graph(alloc, words)?;
+    let words = told(alloc, &graph);
+    drop(graph);
+    words
+}
+
+/// Whether the words are these. It lets them go, so that no test holds them where it compares.
+pub(crate) fn are(words: String, wanted: &str) -> bool {
+    words.as_str() == wanted
 }
 
 /// Numbers of wires, each with a blank in front of it.
@@ -219,4 +245,9 @@ pub(crate) fn doubled(alloc: Global, word: &str, times: u32, join: &str) -> Resu
         words = format!(in alloc; "{words} {words} {join}")?;
     }
     Ok(words)
+}
+
+/// The words of two terms beside each other.
+pub(crate) fn beside(alloc: Global, first: String, second: String) -> Result<String, Fail> {
+    Ok(format!(in alloc; "{first} {second} *")?)
 }

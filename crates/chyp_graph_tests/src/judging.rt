@@ -9,11 +9,14 @@ ghost use Rattle.chyp_term.specs.Term.{morphism_of};
 ghost use Rattle.chyp_simp.specs.Laws.{IsUsable};
 ghost use Rattle.chyp_judge.specs.Judged.{CanBeJudged};
 
-use crate::diagrams::{checked, rewired, typed};
+use crate::diagrams::{are, checked, rewired, typed};
 use chyp_judge::{Judged, judge};
 use chyp_term::{Equation, Step, Term, shape_of};
 use std::alloc::Global;
 use std::test::Fail;
+
+/// Two terms in words.
+type Pair = (&'static str, &'static str);
 
 /// Whether both terms are typed, and have one type.
 pub(crate) fn have_one_type(alloc: Global, from: &Term, to: &Term) -> bool
@@ -25,16 +28,24 @@ pub(crate) fn have_one_type(alloc: Global, from: &Term, to: &Term) -> bool
     }
 }
 
+/// The equation of two terms within the limits.
+fn equation(alloc: Global, left: Term, right: Term) -> Result<Equation, Fail>
+    requires left { IsWithinLimits (morphism_of left) }
+    requires right { IsWithinLimits (morphism_of right) }
+    ensures { IfOk result (λ equation. IsUsable (equation_of equation)) }
+{
+    if have_one_type(alloc, &left, &right) {
+        return Ok(Equation { left, right });
+    }
+    Err(Fail::new("sides of two types"))
+}
+
 /// The rule of these sides.
 pub(crate) fn rule(alloc: Global, left: &str, right: &str) -> Result<Equation, Fail>
     ensures { IfOk result (λ rule. IsUsable (equation_of rule)) }
 {
     let left = typed(alloc, left)?;
-    let right = typed(alloc, right)?;
-    if have_one_type(alloc, &left, &right) {
-        return Ok(Equation { left, right });
-    }
-    Err(Fail::new("sides of two types"))
+    equation(alloc, left, typed(alloc, right)?)
 }
 
 /// The step by the rule of these sides.
@@ -44,54 +55,56 @@ fn by_rule(alloc: Global, left: &str, right: &str) -> Result<Step, Fail>
     Ok(Step::ByRule(rule(alloc, left, right)?))
 }
 
-/// The judgement on a step from one term to another.
-fn judged_terms(alloc: Global, from: &Term, to: &Term, step: &Step) -> Result<Judged, Fail>
-    requires from { IsWithinLimits (morphism_of from.now) }
-    requires to { IsWithinLimits (morphism_of to.now) }
+/// The judgement on a step from the left term to the right one.
+fn judged(alloc: Global, ends: &Equation, step: &Step) -> Result<Judged, Fail>
+    requires ends { IsUsable (equation_of ends.now) }
     requires step { CanBeJudged (reason_of step.now) }
 {
-    if have_one_type(alloc, from, to) {
-        return Ok(judge(alloc, from, to, step)?);
-    }
-    Err(Fail::new("two types"))
+    Ok(judge(alloc, &ends.left, &ends.right, step)?)
 }
 
-/// The judgement on a step from the term of these words to that of those.
-fn judged(alloc: Global, from: &str, to: &str, step: &Step) -> Result<Judged, Fail>
-    requires { CanBeJudged (reason_of step.now) }
+/// The judgement on a step from the left term to the right one, by the rule of these sides.
+fn judged_by(alloc: Global, ends: &Equation, sides: Pair) -> Result<Judged, Fail>
+    requires { IsUsable (equation_of ends.now) }
 {
-    let from = typed(alloc, from)?;
-    let to = typed(alloc, to)?;
-    judged_terms(alloc, &from, &to, step)
+    let step = by_rule(alloc, sides.0, sides.1)?;
+    let judged = judged(alloc, ends, &step);
+    // As a call, it takes one step of the proof.
+    drop(step);
+    judged
+}
+
+/// A judgement in words.
+fn in_words(alloc: Global, judged: Judged) -> Result<String, Fail> {
+    Ok(format!(in alloc; "{judged:?}")?)
 }
 
 /// The judgement in words on a step by the laws.
 fn told_by_laws(alloc: Global, from: &str, to: &str) -> Result<String, Fail> {
-    let judged = judged(alloc, from, to, &Step::Refl)?;
-    Ok(format!(in alloc; "{judged:?}")?)
+    let ends = rule(alloc, from, to)?;
+    let judged = judged(alloc, &ends, &Step::Refl);
+    drop(ends);
+    in_words(alloc, judged?)
 }
 
 #[test]
 fn steps_by_the_laws_are_judged(rt: HostRuntime) -> Result<(), Fail> {
     let alloc = rt.alloc();
     for (from, to, wanted) in [("f", "g", "Differs"), ("f g * sw ;", "sw g f * ;", "Good")] {
-        assert_eq!(rt;
-            told_by_laws(alloc, from, to)?.as_str(),
-            wanted,
+        assert!(rt;
+            are(told_by_laws(alloc, from, to)?, wanted),
             "{from} to {to}"
         );
     }
     Ok(())
 }
 
-/// Two terms in words.
-type Pair = (&'static str, &'static str);
-
 /// The judgement in words on a step from the one term to the other, by the rule of these sides.
 fn told(alloc: Global, ends: Pair, sides: Pair) -> Result<String, Fail> {
-    let step = by_rule(alloc, sides.0, sides.1)?;
-    let judged = judged(alloc, ends.0, ends.1, &step)?;
-    Ok(format!(in alloc; "{judged:?}")?)
+    let ends = rule(alloc, ends.0, ends.1)?;
+    let judged = judged_by(alloc, &ends, sides);
+    drop(ends);
+    in_words(alloc, judged?)
 }
 
 const SIXTEEN: &str = "s s * s * s * s * s * s * s * s * s * s * s * s * s * s * s *";
@@ -164,7 +177,12 @@ const STEPS: [(Pair, Pair, &str); 20] = [
 fn steps_by_a_rule_are_judged(rt: HostRuntime) -> Result<(), Fail> {
     let alloc = rt.alloc();
     for (ends, sides, wanted) in STEPS {
-        assert_eq!(rt; told(alloc, ends, sides)?.as_str(), wanted);
+        assert!(rt;
+            are(told(alloc, ends, sides)?, wanted),
+            "{} to {}",
+            ends.0,
+            ends.1
+        );
     }
     Ok(())
 }
@@ -182,8 +200,11 @@ fn wires(alloc: Global, count: u32) -> Result<Term, Fail>
 
 /// The judgement on a step from so many wires to themselves, by a rule whose left side is one wire.
 fn judged_wires(alloc: Global, count: u32) -> Result<Judged, Fail> {
-    let step = by_rule(alloc, "id", "id")?;
-    judged_terms(alloc, &wires(alloc, count)?, &wires(alloc, count)?, &step)
+    let from = wires(alloc, count)?;
+    let ends = equation(alloc, from, wires(alloc, count)?)?;
+    let judged = judged_by(alloc, &ends, ("id", "id"));
+    drop(ends);
+    judged
 }
 
 #[test]

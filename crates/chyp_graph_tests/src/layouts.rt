@@ -1,5 +1,5 @@
 // Pictures of small graphs, and of one that is too big.
-use crate::diagrams::{doubled, graph};
+use crate::diagrams::{are, beside, doubled, graph};
 use chyp_layout::layout;
 use chyp_picture::{BoxAt, Line, Picture};
 use std::alloc::Global;
@@ -66,7 +66,7 @@ fn small_graphs_have_their_pictures(rt: HostRuntime) -> Result<(), Fail> {
             "280x100 f@1:20+20 g@1:60+20 30-30 30-70 70-70 70-30",
         ),
     ] {
-        assert_eq!(rt; drawn(alloc, words)?.as_str(), picture, "{words}");
+        assert!(rt; are(drawn(alloc, words)?, picture), "{words}");
     }
     Ok(())
 }
@@ -76,9 +76,9 @@ fn a_picture_that_is_too_big_is_refused(rt: HostRuntime) -> Result<(), Fail> {
     let alloc = rt.alloc();
     // 1,024 wires beside a chain of 256 boxes.
     let wires = doubled(alloc, "id", 10, "*")?;
-    let chain = doubled(alloc, "f", 8, ";")?;
-    let words = format!(in alloc; "{wires} {chain} *")?;
-    let error = drawn(alloc, &words)?;
-    assert_eq!(rt; error.as_str(), "TooBig { points: 262400 }");
+    let words = beside(alloc, wires, doubled(alloc, "f", 8, ";")?)?;
+    let error = drawn(alloc, &words);
+    drop(words);
+    assert!(rt; are(error?, "TooBig { points: 262400 }"));
     Ok(())
 }

@@ -1,5 +1,6 @@
 // Occurrences of patterns in graphs.
-use crate::diagrams::{graph, numbers};
+use crate::diagrams::{are, graph, numbers};
+use crate::patterns::pattern_of;
 use chyp_graph::{EdgeId, Graph};
 use chyp_match::{Listed, Occurrences};
 use chyp_pattern::{Occurrence, Pattern};
@@ -52,9 +53,18 @@ fn told_in(alloc: Global, pattern: &Pattern, target: &Graph) -> Result<String, F
 
 /// The first eight occurrences of the one graph in the other.
 fn told(alloc: Global, pattern: &str, target: &str) -> Result<String, Fail> {
-    let pattern = Pattern::of(graph(alloc, pattern)?)?;
+    let pattern = pattern_of(alloc, pattern)?;
+    let words = told_by(alloc, &pattern, target);
+    drop(pattern);
+    words
+}
+
+/// The first eight occurrences of a pattern in the graph of these words.
+fn told_by(alloc: Global, pattern: &Pattern, target: &str) -> Result<String, Fail> {
     let target = graph(alloc, target)?;
-    told_in(alloc, &pattern, &target)
+    let words = told_in(alloc, pattern, &target);
+    drop(target);
+    words
 }
 
 #[test]
@@ -77,7 +87,10 @@ fn patterns_have_occurrences(rt: HostRuntime) -> Result<(), Fail> {
             " 0 1:; 0 2:; 1 0:; 1 2:; 2 0:; 2 1:;-;-;",
         ),
     ] {
-        assert_eq!(rt; told(alloc, pattern, target)?.as_str(), wanted);
+        assert!(rt;
+            are(told(alloc, pattern, target)?, wanted),
+            "{pattern} in {target}"
+        );
     }
     Ok(())
 }
@@ -102,12 +115,21 @@ fn count_in(alloc: Global, pattern: &Pattern, target: &Graph) -> Result<u32, Fai
     Ok(count)
 }
 
+/// How many occurrences the pattern has in the graph of these words.
+fn count_by(alloc: Global, pattern: &Pattern, target: &str) -> Result<u32, Fail> {
+    let target = graph(alloc, target)?;
+    let count = count_in(alloc, pattern, &target);
+    drop(target);
+    count
+}
+
 #[test]
 fn scalars_have_as_many_occurrences_as_there_are_arrangements(rt: HostRuntime) -> Result<(), Fail> {
     let alloc = rt.alloc();
     let sixteen = "s s * s * s * s * s * s * s * s * s * s * s * s * s * s * s *";
-    let pattern = Pattern::of(graph(alloc, "s s * s * s *")?)?;
-    let target = graph(alloc, sixteen)?;
-    assert_eq!(rt; count_in(alloc, &pattern, &target)?, 43_680);
+    let pattern = pattern_of(alloc, "s s * s * s *")?;
+    let count = count_by(alloc, &pattern, sixteen);
+    drop(pattern);
+    assert_eq!(rt; count?, 43_680);
     Ok(())
 }

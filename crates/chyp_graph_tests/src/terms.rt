@@ -1,6 +1,6 @@
 ghost use Rattle.std.specs.Prelude.{◌≡◌, ◌+◌, ◌<◌, ◌^◌, length};
 
-use crate::diagrams::{permuted, rewired, term};
+use crate::diagrams::{are, permuted, rewired, term};
 use chyp_term::{
     Equation, Equations, Perm, Places, Shape, ShapeError, Step, StepList, Term, Terms, copy, depth,
     gens, shape_of, size,
@@ -38,12 +38,22 @@ fn permutations_stand_beside_each_other(rt: HostRuntime) -> Result<(), Fail> {
     Ok(())
 }
 
+/// Whether a permutation has these places. It lets it go.
+fn has_places(perm: Perm, places: &[u32]) -> bool {
+    perm.places() == places
+}
+
 #[test]
 fn a_permutation_has_an_inverse_and_a_copy(rt: HostRuntime) -> Result<(), Fail> {
     let alloc = rt.alloc();
     let turned = permuted(alloc, &[1, 2, 0])?;
-    assert_eq!(rt; turned.invert()?.places(), [2, 0, 1].as_slice());
-    assert_eq!(rt; turned.copy()?.places(), [1, 2, 0].as_slice());
+    let inverse = turned.invert();
+    drop(turned);
+    assert!(rt; has_places(inverse?, &[2, 0, 1]));
+    let turned = permuted(alloc, &[1, 2, 0])?;
+    let copied = turned.copy();
+    drop(turned);
+    assert!(rt; has_places(copied?, &[1, 2, 0]));
     Ok(())
 }
 
@@ -90,10 +100,16 @@ fn a_term_has_a_type_or_a_clash(rt: HostRuntime) -> Result<(), Fail> {
 #[test]
 fn a_term_that_is_not_typed_clashes(rt: HostRuntime) -> Result<(), Fail> {
     let alloc = rt.alloc();
-    let term = term(alloc, "m m ;")?;
-    assert!(rt; clashes(alloc, &term));
-    assert_eq!(rt; written(alloc, &copy(&term)?)?, written(alloc, &term)?);
-    assert!(rt; clashes(alloc, &rewired(alloc, 3, &[1, 0])?));
+    let composed = term(alloc, "m m ;")?;
+    let clashing = clashes(alloc, &composed);
+    let copied = is_copied(alloc, &composed);
+    drop(composed);
+    assert!(rt; copied?);
+    assert!(rt; clashing);
+    let rewired = rewired(alloc, 3, &[1, 0])?;
+    let clashing = clashes(alloc, &rewired);
+    drop(rewired);
+    assert!(rt; clashing);
     Ok(())
 }
 
@@ -101,13 +117,42 @@ fn written(alloc: Global, term: &Term) -> Result<String, Fail> {
     Ok(format!(in alloc; "{term:?}")?)
 }
 
+/// Whether a copy of a term is written as these words.
+fn is_copied_as(alloc: Global, term: &Term, words: &str) -> Result<bool, Fail> {
+    let copied = copy(term)?;
+    let copy_in_words = written(alloc, &copied);
+    // As a call, it takes one step of the proof.
+    drop(copied);
+    Ok(are(copy_in_words?, words))
+}
+
+/// Whether a copy of a term is written as the term.
+fn is_copied(alloc: Global, term: &Term) -> Result<bool, Fail> {
+    let words = written(alloc, term)?;
+    let same = is_copied_as(alloc, term, &words);
+    drop(words);
+    same
+}
+
+/// How big a copy of a term is: its size, its depth, and how many generators it has.
+fn sizes_of_copy(term: &Term) -> Result<[u64; 3], Fail> {
+    let copied = copy(term)?;
+    let sizes = [size(&copied), depth(&copied), gens(&copied)];
+    drop(copied);
+    Ok(sizes)
+}
+
 #[test]
 fn a_copy_is_equal_and_as_big(rt: HostRuntime) -> Result<(), Fail> {
     let alloc = rt.alloc();
-    let term = term(alloc, TYPED)?;
-    let copied = copy(&term)?;
-    assert_eq!(rt; [size(&copied), depth(&copied), gens(&copied)], [12, 3, 1]);
-    assert_eq!(rt; written(alloc, &copied)?, written(alloc, &term)?);
+    let first = term(alloc, TYPED)?;
+    let sizes = sizes_of_copy(&first);
+    drop(first);
+    assert_eq!(rt; sizes?, [12, 3, 1]);
+    let second = term(alloc, TYPED)?;
+    let same = is_copied(alloc, &second);
+    drop(second);
+    assert!(rt; same?);
     Ok(())
 }
 

@@ -7,10 +7,10 @@ use Rattle.chyp_laws.proofs.Draws.{draw_s}
 use Rattle.chyp_extract.proofs.ReplacedValid.{drawn_types}
 use Rattle.chyp_graph_tests.proofs.graphs.composed.Goals as goal
 
-pub then-requires-clause-middle : goal.then-requires-clause-middle
-then-requires-clause-middle c =
-    let t = morphism_of c.in_ok-first.first in
-    let u = morphism_of c.in_ok-second.second in
-    let a = drawn_types t c.in_ok-first.ensures.typed (graph_of t) (draw_s t c.in_ok-first.ensures.typed) in
-    let b = drawn_types u c.in_ok-second.ensures.typed (graph_of u) (draw_s u c.in_ok-second.ensures.typed) in
-    ap output_sorts c.in_ok-before.ensures ∙ a.1 ∙ c.if-not-fits.ensures refl ∙ sym b.0 ∙ sym (ap input_sorts c.in_ok-after.ensures)
+pub then_term-both-requires-clause-middle : goal.then_term-both-requires-clause-middle
+then_term-both-requires-clause-middle c =
+    let t = morphism_of c.args.first.now in
+    let u = morphism_of c.args.second.now in
+    let a = drawn_types t c.requires.first (graph_of t) (draw_s t c.requires.first) in
+    let b = drawn_types u c.requires.second (graph_of u) (draw_s u c.requires.second) in
+    ap output_sorts c.in_ok-before.ensures ∙ a.1 ∙ c.if-not-fits.ensures refl ∙ sym b.0
