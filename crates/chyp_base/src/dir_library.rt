@@ -1,7 +1,11 @@
 // The files of the current folder as a library.
-ghost use Rattle.std.specs.Prelude.{◌≡◌, ◌≤◌, ◌+◌, length, None, IfOk, Err};
+ghost use Rattle.std.specs.Prelude.{◌≡◌, ◌<◌, ◌≤◌, ◌+◌, ◌-◌, ◌^◌, length, None, IfOk, Err};
+ghost use Rattle.chyp_base.specs.Causes.{LibraryHasCause};
+ghost use Rattle.chyp_base.specs.Library.{FindsModule, most_read};
+ghost use Rattle.chyp_base.specs.declared.library_error.LibraryError.TheVariants.{Failed};
 
-use crate::{Found, Library, LibraryError, MAX_TEXT_LEN};
+use crate::limits::MOST_READ;
+use crate::{Found, Library, LibraryError};
 use std::alloc::Global;
 use std::io::{ErrorKind, Read};
 use std::rt::Files;
@@ -17,9 +21,6 @@ pub struct DirLibrary<F> {
     alloc: Global,
     faults: u64,
 }
-
-// The limit of a text, and one byte to tell that it is passed.
-const MOST_READ: usize = MAX_TEXT_LEN + 1;
 
 impl<F: Files> DirLibrary<F> {
     /// A library over these files, with no fault yet.
@@ -45,7 +46,15 @@ impl<F: Files> Library for DirLibrary<F> {
 
     ghost faults = { λ s. s.faults };
 
-    fn read(&mut self, name: &str, into: &mut Vec<u8>) -> Result<Found, LibraryError> {
+    fn read(&mut self, name: &str, into: &mut Vec<u8>) -> Result<Found, LibraryError>
+        requires { ⟦<DirLibrary<F> as Library>⟧.faults self.old < 2 ^ 64 - 1 }
+        ensures same { ⟦<DirLibrary<F> as Library>⟧.texts self.new ≡ ⟦<DirLibrary<F> as Library>⟧.texts self.old }
+        ensures bound { length into.new.items ≤ most_read }
+        ensures found { FindsModule (⟦<DirLibrary<F> as Library>⟧.texts self.old) name.now result into.new.items }
+        ensures cause { LibraryHasCause (⟦<DirLibrary<F> as Library>⟧.faults self.old) (⟦<DirLibrary<F> as Library>⟧.faults self.new) result }
+        // A failure is one fault.
+        ensures counts { result ≡ Err Failed → ⟦<DirLibrary<F> as Library>⟧.faults self.new ≡ ⟦<DirLibrary<F> as Library>⟧.faults self.old + 1 }
+    {
         into.clear();
         let Ok(path) = format!(in self.alloc; "{name}.chyp") else {
             return Err(LibraryError::NoMemory);

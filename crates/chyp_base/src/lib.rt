@@ -5,10 +5,10 @@
 //! is exact wherever the object tells what it has left or holds. [`MemSource`], [`MemSink`] and
 //! [`MemLibrary`] tell it, and fail at the calls that they are told, a [`MemSink`] also where it has no
 //! room; [`StdSource`] and [`StdSink`] stand over any reader and writer of std, and [`DirLibrary`] over
-//! the files of the current folder. A [`Name`], a [`Text`] and a [`Sorts`] are seen as lists, `==` on them and on a [`Sort`] says whether they are the same, and
-//! [`Steps`] is a number to which `tick` adds one. A [`Verdict`] is what a statement gets, where
-//! [`Verdict::is_good`] tells which count as good, and a [`Status`] is how a run ends, where
-//! [`Status::number`] is the exit status.
+//! the files of the current folder. A [`Name`], a [`Text`] and a [`Sorts`] are seen as lists, `==` on
+//! them and on a [`Sort`] says whether they are the same, and [`Steps`] is a number to which `tick`
+//! adds one. A [`Verdict`] is what a statement gets, where [`Verdict::is_good`] tells which count as
+//! good, and a [`Status`] is how a run ends, where [`Status::number`] is the exit status.
 #![tactic(auto)]
 
 mod dir_library;

@@ -4,7 +4,8 @@ ghost use Rattle.chyp_base.specs.Causes.{LibraryHasCause};
 ghost use Rattle.chyp_base.specs.Library.{FindsModule, most_read};
 ghost use Rattle.chyp_base.specs.MemLibrary.{text_of};
 
-use crate::{Found, Library, LibraryError, MAX_TEXT_LEN, Name, Text};
+use crate::limits::MOST_READ;
+use crate::{Found, Library, LibraryError, Name, Text};
 use std::alloc::AllocError;
 use std::marker::Model;
 
@@ -27,9 +28,6 @@ impl Model for MemLibrary {
 
     ghost view = { λ s. record { modules = s.modules.items; failing = s.failing.items; calls = s.calls; faults = s.faults } };
 }
-
-// The limit of a text, and one byte to tell that it is passed.
-const MOST_READ: usize = MAX_TEXT_LEN + 1;
 
 impl MemLibrary {
     /// A library of these modules, with no fault yet. Of modules with one name the first counts.

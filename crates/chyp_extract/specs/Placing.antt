@@ -1,4 +1,4 @@
--- Which edges the rounds of extraction place, told by the rounds of validity.
+-- Which edges the rounds of extraction place, told by the rounds of validity. No public clause cites this.
 use Rattle.std.specs.Prelude.{ℕ, suc, not, ◌&&◌, List, filter}
 use Rattle.chyp_graph.specs.PlainGraph.{Edge, PlainGraph}
 use Rattle.chyp_graph.specs.Rounds.{is_taken_within}

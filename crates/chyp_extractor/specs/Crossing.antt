@@ -1,4 +1,4 @@
--- Wires that are put in another order.
+-- Wires that are put in another order. No public clause cites this.
 use Rattle.std.specs.Prelude.{ℕ, ◌<◌, ◌^◌, ◌≡◌, true, All, List, length, slice_index}
 use Rattle.chyp_term.specs.Perm.{IsPermutation}
 use Rattle.chyp_term.specs.Positions.{is_among}

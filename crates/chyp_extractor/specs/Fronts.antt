@@ -1,4 +1,4 @@
--- What stands before each round of extraction.
+-- What stands before each round of extraction. No public clause cites this.
 use Rattle.std.specs.Prelude.{ℕ, zero, suc, ◌≡◌, Bool, List, [], ◌∷◌, ◌++◌, length}
 use Rattle.chyp_term.specs.Morphism.{Morphism}
 use Rattle.chyp_term.specs.Positions.{is_among}

@@ -1,4 +1,4 @@
--- How the parts of a row are joined.
+-- How the parts of a row are joined. No public clause cites this.
 use Rattle.chyp_term.specs.Morphism.{Morphism, then, beside}
 use Rattle.chyp_extractor.specs.declared.join.Join.{Join}
 use Rattle.chyp_extractor.specs.declared.join.Join.TheVariants.{Then, Beside}

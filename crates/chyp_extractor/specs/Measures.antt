@@ -1,4 +1,4 @@
--- Measures of terms, as they are kept: each up to the greatest number of 64 bits.
+-- Measures of terms, as they are kept: each up to the greatest number of 64 bits. No public clause cites this.
 use Rattle.std.specs.Prelude.{ℕ, ◌+◌, ◌-◌, ◌^◌, ◌≤◌, max, min}
 use Rattle.chyp_extract.specs.Measuring.{Measures as TermMeasures}
 use Rattle.chyp_extractor.specs.declared.measures.Measures.{Measures}

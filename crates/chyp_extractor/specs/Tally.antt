@@ -1,4 +1,4 @@
--- What stands before each round of measuring.
+-- What stands before each round of measuring. No public clause cites this.
 use Rattle.std.specs.Prelude.{ℕ, ◌-◌, ◌<◌, ◌≤◌, ◌≡◌, Bool, true, false, not, ◌&&◌, eqb, All, List, [], ◌∷◌, ◌++◌, Option, filter, length, reverse, slice_get}
 use Rattle.chyp_graph.specs.PlainGraph.{PlainGraph}
 use Rattle.chyp_extract.specs.Measuring.{Measures, of_crossing, of_layer}

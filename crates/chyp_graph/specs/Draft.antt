@@ -1,4 +1,4 @@
--- Graphs while they are drawn.
+-- Graphs while they are drawn. No public clause cites this.
 use Rattle.std.specs.Prelude.{ℕ, ◌≡◌, List, ◌++◌, drop, length, take}
 use Rattle.chyp_term.specs.Morphism.{Morphism, dom}
 use Rattle.chyp_graph.specs.declared.draft.Draft.{Draft}

@@ -1,4 +1,4 @@
--- The numbers of the wires of a graph that is put behind another.
+-- The numbers of the wires of a graph that is put behind another. No public clause cites this.
 use Rattle.std.specs.Prelude.{ℕ, ◌+◌, ◌<◌, ◌≡◌, List, cond, length, map, slice_index}
 use Rattle.chyp_term.specs.Perm.{count_from}
 use Rattle.chyp_term.specs.Positions.{is_among}

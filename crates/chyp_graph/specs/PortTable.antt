@@ -1,4 +1,4 @@
--- The ports on one side of an edge, written into a table.
+-- The ports on one side of an edge, written into a table. No public clause cites this.
 use Rattle.std.specs.Prelude.{ℕ, ◌<◌, ◌^◌, All, ◌≡◌, true, List, length, Option, Some, slice_get, ◌⊎◌}
 use Rattle.chyp_term.specs.Positions.{is_apart}
 use Rattle.chyp_graph.specs.PlainGraph.{Edge}

@@ -1,4 +1,4 @@
--- Pairings of two graphs of which nothing hangs on what is in no pair.
+-- Pairings of two graphs of which nothing hangs on what is in no pair. No public clause cites this.
 use Rattle.std.specs.Prelude.{ℕ, ◌<◌, ◌≡◌, ◌++◌, List, length}
 use Rattle.chyp_graph.specs.PlainGraph.{PlainGraph}
 use Rattle.chyp_graph.specs.Isomorphism.{Isomorphic}

@@ -1,4 +1,4 @@
--- Where a graph that is rewritten differs from the one that is to come out.
+-- Where a graph that is rewritten differs from the one that is to come out. No public clause cites this.
 use Rattle.std.specs.Prelude.{IfSome}
 use Rattle.chyp_judge.specs.Walk.{IsDifference}
 use Rattle.chyp_judge.specs.declared.differences.Differences.{Differences}

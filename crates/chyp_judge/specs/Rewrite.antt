@@ -1,4 +1,4 @@
--- Rewriting one graph to another by a rule, at one of its occurrences.
+-- Rewriting one graph to another by a rule, at one of its occurrences. No public clause cites this.
 use Rattle.std.specs.Prelude.{◌≡◌, ℕ, ◌+◌, ◌<◌, ◌≤◌, ◌^◌, List, Contains, Some, length, slice_get}
 use Rattle.chyp_graph.specs.Isomorphism.{Isomorphic}
 use Rattle.chyp_match.specs.Matcher.{Matcher}

@@ -1,4 +1,4 @@
--- Walks along a graph that is rewritten and the one that is to come out, side by side from their ends.
+-- Walks along a graph that is rewritten and the one that is to come out, side by side from their ends. No public clause cites this.
 use Rattle.std.specs.Prelude.{ℕ, ◌<◌, ◌≡◌, Bool, true, List, length, filter, Option, Some, None, IfSome, Contains, slice_get}
 use Rattle.chyp_term.specs.Perm.{count_from}
 use Rattle.chyp_term.specs.Positions.{is_apart}

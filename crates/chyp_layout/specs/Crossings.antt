@@ -1,4 +1,4 @@
--- The pieces of a line, as they are gathered from gap to gap.
+-- The pieces of a line, as they are gathered from gap to gap. No public clause cites this.
 use Rattle.std.specs.Prelude.{ℕ, ◌+◌, ◌-◌, List, length, min}
 use Rattle.chyp_picture.specs.Crossings.{end_after}
 use Rattle.chyp_picture.specs.Picture.{column_of}

@@ -1,4 +1,4 @@
-//! Layered layout of string diagrams: from a graph to its picture.
+//! Layered layout of string diagrams: from a graph to its picture; no command draws yet.
 //!
 //! [`layout`] gives the picture that `picture_of` of `specs/PictureOf.antt` names, after Sugiyama,
 //! Tagawa and Toda: the box of an edge stands one column behind the last of the boxes that make its

@@ -1,4 +1,5 @@
-//! What the picture of a graph promises: laws on the definition that `layout` of `chyp_layout` follows.
+//! What the picture of a graph promises: laws on the definition that `layout` of `chyp_layout` follows;
+//! no command draws yet.
 //!
 //! Boxes stand in layers by longest paths, and no two overlap; lines pass each column between their
 //! ends; the picture is whole, has at most the crossings of the first order, and read back it is the

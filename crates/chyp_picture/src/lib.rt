@@ -1,4 +1,4 @@
-//! Pictures of string diagrams, in columns, and how often their wires cross.
+//! Pictures of string diagrams, in columns, and how often their wires cross; no command draws yet.
 //!
 //! A [`Picture`] has a list of boxes, which stand in columns, and a list of lines, each from an input or
 //! a port to an output or a port, with a bend in each column between; `specs/Picture.antt` says which

@@ -1,4 +1,4 @@
--- Which numbers are images.
+-- Which numbers are images. No public clause cites this.
 use Rattle.std.specs.Prelude.{ℕ, ◌<◌, ◌≡◌, Bool, List, length, Some, slice_get}
 use Rattle.chyp_term.specs.Positions.{is_among}
 

@@ -1,4 +1,4 @@
--- The wires of a graph with an occurrence replaced.
+-- The wires of a graph with an occurrence replaced. No public clause cites this.
 use Rattle.std.specs.Prelude.{◌≡◌, ℕ, List, ◌++◌, length, map, slice_index}
 use Rattle.chyp_term.specs.Perm.{count_from, permuted}
 use Rattle.chyp_graph.specs.PlainGraph.{PlainGraph}

@@ -1,4 +1,4 @@
--- New numbers of wires.
+-- New numbers of wires. No public clause cites this.
 use Rattle.std.specs.Prelude.{ℕ, ◌<◌, ◌≡◌, List, length, slice_index}
 use Rattle.chyp_term.specs.Positions.{place_of}
 use Rattle.chyp_graph.specs.Composition.{inner, joined_at}

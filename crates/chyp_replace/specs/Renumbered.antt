@@ -1,4 +1,4 @@
--- Edges under new numbers.
+-- Edges under new numbers. No public clause cites this.
 use Rattle.std.specs.Prelude.{ℕ, List, map, slice_index}
 use Rattle.chyp_graph.specs.PlainGraph.{Edge}
 use Rattle.chyp_replace.specs.declared.numbers.Numbers.{Numbers}

@@ -1,4 +1,4 @@
--- What rules do to a graph.
+-- What rules do to a graph. No public clause cites this.
 use Rattle.std.specs.Prelude.{ℕ, ◌≤◌, ◌<◌, ◌+◌, ◌^◌, List, length}
 use Rattle.chyp_graph.specs.PlainGraph.{PlainGraph}
 use Rattle.chyp_pattern.specs.Occurrence.{IsOccurrence}

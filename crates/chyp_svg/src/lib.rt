@@ -1,4 +1,4 @@
-//! Pictures as SVG texts.
+//! Pictures as SVG texts; no command draws yet.
 //!
 //! [`write_svg`] appends the text of a picture to any sink, and [`svg_len`] is the length of that text,
 //! so that a reader can be told it before; neither takes memory. `drawing_of` of `specs/Drawing.antt` is
