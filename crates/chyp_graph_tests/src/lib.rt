@@ -27,4 +27,6 @@ mod replacing;
 #[cfg(test)]
 mod rewriting;
 #[cfg(test)]
+mod slow_search;
+#[cfg(test)]
 mod terms;

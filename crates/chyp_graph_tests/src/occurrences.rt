@@ -17,7 +17,7 @@ fn edge_numbers(alloc: Global, edges: &[EdgeId]) -> Result<String, Fail> {
 }
 
 /// The images of edges, a colon, and those of wires.
-fn images(alloc: Global, at: &Occurrence) -> Result<String, Fail> {
+pub(crate) fn images(alloc: Global, at: &Occurrence) -> Result<String, Fail> {
     let edges = edge_numbers(alloc, at.edges.as_slice())?;
     let wires = numbers(alloc, at.wires.as_slice())?;
     Ok(format!(in alloc; "{edges}:{wires}")?)
