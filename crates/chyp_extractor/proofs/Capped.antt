@@ -61,9 +61,6 @@ log-depth n l two low high = record {
     go k h (inl a) = omega arith
     go k h (inr a) = let p = power-more k l (l - k) (omega arith) in absurd (omega arith)
 
-pub one-depth : (n : ℕ) → n ≡ 1 → IsHalvedDepth n 1
-one-depth n e = record { some = omega arith; enough = omega arith; least = λ k h. omega arith }
-
 depth-is : (n d e : ℕ) → IsDepthOf n d → IsHalvedDepth n e → e ≡ d
 depth-is n d e s t =
     let a : 1 ≤ d = s.some in
@@ -158,13 +155,6 @@ measures-pushed before mid after m cs l e f a =
     a ∙ ap₂ (λ xs x. xs ++ x ∷ []) e f ∙ append_assoc before (map kept cs) (kept l ∷ []) ∙ ap (λ xs. before ++ xs) (sym (map-append kept cs (l ∷ [])))
 
 -- ## the whole
-
-pub measured-none : (g : PlainGraph) (parts : List Measures) → parts ≡ map kept (measures_from g (length g.edges) g.inputs g.edges) → length parts ≡ 0 → kept (of_layer [] g.inputs) ≡ kept (measured g)
-measured-none g parts e n = go (measures_from g (length g.edges) g.inputs g.edges) (let a = ap length e in let b = length-map (measures_from g (length g.edges) g.inputs g.edges) kept in omega arith)
-  where
-    go : (ms : List TermMeasures) → length ms ≡ 0 → kept (of_layer [] g.inputs) ≡ kept (of_chain g ms)
-    go [] z = refl
-    go (m ∷ ms) z = absurd (omega arith)
 
 pub measured-some : (g : PlainGraph) (parts : List Measures) → parts ≡ map kept (measures_from g (length g.edges) g.inputs g.edges) → 1 ≤ length parts
     → halved_in (kept (of_wires 0)) both parts ≡ kept (measured g)

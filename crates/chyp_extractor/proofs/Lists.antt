@@ -1,5 +1,5 @@
 -- Lists: members, filters, and lists that grow by one.
-use Rattle.std.proofs.Common.{◌≡◌, ℕ, ◌+◌, Bool, true, false, cond, List, [], ◌∷◌, ◌++◌, take, filter, flat_map, map, Some, slice_get, All, inl, inr, refl, sym, ◌∙◌, ap, ap₂, subst, append_assoc}
+use Rattle.std.proofs.Common.{◌≡◌, ℕ, ◌+◌, Bool, cond, List, [], ◌∷◌, ◌++◌, take, filter, flat_map, map, Some, slice_get, All, inl, inr, refl, sym, ◌∙◌, ap, ap₂, subst, append_assoc}
 use Rattle.std.specs.List.{cons_option}
 use Rattle.std.proofs.lemmas.List.{map-append}
 use Rattle.std.proofs.lemmas.Option.{get_or_from_slice_get}
@@ -20,17 +20,6 @@ All-member P xs all x m = let i = member-get xs x m in subst P (get_or_from_slic
 pub filter-same_on : {A : Type 0} (p q : A → Bool) (xs : List A) → ((x : A) → Member x xs → p x ≡ q x) → filter p xs ≡ filter q xs
 filter-same_on p q [] h = refl
 filter-same_on p q (x ∷ xs) h = ap₂ (λ b l. cond b (x ∷ l) l) (h x (inl refl)) (filter-same_on p q xs (λ y m. h y (inr m)))
-
-pub filter-more : {A : Type 0} (p : A → Bool) (xs : List A) (i : ℕ) (x : A) → slice_get xs i ≡ Some x → filter p (take (i + 1) xs) ≡ filter p (take i xs) ++ cond (p x) (x ∷ []) []
-filter-more {A} p xs i x e = ap (filter p) (take-suc xs i x e) ∙ go (take i xs)
-  where
-    go : (ys : List A) → filter p (ys ++ x ∷ []) ≡ filter p ys ++ cond (p x) (x ∷ []) []
-    go [] = refl
-    go (y ∷ ys) = ap (λ l. cond (p y) (y ∷ l) l) (go ys) ∙ on (p y)
-      where
-        on : (b : Bool) → cond b (y ∷ (filter p ys ++ cond (p x) (x ∷ []) [])) (filter p ys ++ cond (p x) (x ∷ []) []) ≡ cond b (y ∷ filter p ys) (filter p ys) ++ cond (p x) (x ∷ []) []
-        on true = refl
-        on false = refl
 
 -- one place more takes one item more
 pub permuted-next : {A : Type 0} (xs : List A) (ks : List ℕ) (i k : ℕ) (x : A) → slice_get ks i ≡ Some k → slice_get xs k ≡ Some x

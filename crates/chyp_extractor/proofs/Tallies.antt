@@ -1,5 +1,5 @@
 -- The wires of a stack that aren't used, and the measures of the parts.
-use Rattle.std.proofs.Common.{ℕ, zero, suc, ◌+◌, ◌-◌, ◌<◌, ◌≤◌, ◌≡◌, Bool, true, false, not, ◌&&◌, cond, eqb, List, [], ◌∷◌, ◌++◌, length, take, drop, filter, map, reverse, Some, None, slice_get, All, ◌⊎◌, inl, inr, refl, sym, ◌∙◌, ap, ap₂, subst, arith}
+use Rattle.std.proofs.Common.{ℕ, zero, suc, ◌+◌, ◌-◌, ◌<◌, ◌≤◌, ◌≡◌, Bool, true, false, not, ◌&&◌, cond, eqb, List, [], ◌∷◌, ◌++◌, length, take, drop, filter, map, reverse, Some, slice_get, All, ◌⊎◌, inl, inr, refl, sym, ◌∙◌, ap, ap₂, subst, arith}
 use Rattle.std.proofs.Common.{add-one, append_assoc, append-nil, zero-add, length-append, drop-cons, eq-eqb, eqb-true}
 use Rattle.std.proofs.lemmas.Bool.{and_parts, cases_Bool}
 use Rattle.std.proofs.lemmas.List.{map-append, reverse-append, reverse-reverse, take_all}
@@ -66,44 +66,10 @@ keeps-dropped g n w start old new e r u k = λ m l a. unused-dropped g m w old n
 none-given : (P : ℕ → Type 0) → All P []
 none-given P = λ k d l. absurd (omega arith)
 
-pub keeps-start : (g : PlainGraph) (n : ℕ) (start : List ℕ) → KeepsUnused g n [] start start
-keeps-start g n start = λ m l a. refl
-
 pub wires-popped : (g : PlainGraph) (old new : List ℕ) (n : ℕ) → AreWires g old → new ≡ take n old → AreWires g new
 wires-popped g old new n a e = subst (AreWires g) (sym e) (All-take (λ w. w < length g.wires) n old a)
 
--- the first wire that isn't used, where that at the top isn't
-pub first-unused : (g : PlainGraph) (n w v : ℕ) (old now : List ℕ) → KeepsUnused g n [] old now → first_of now ≡ Some v → is_used_within g n v ≡ false
-    → eqb v w ≡ begins (w ∷ []) (unused_in g n old)
-first-unused g n w v old now k e u =
-    sym (ap (begins (w ∷ [])) (sym (k n (omega arith) (none-given _)) ∙ unused-popped g n v now (take (length now - 1) now) e refl
-    ∙ ap (λ b. cond (not b) (v ∷ unused_in g n (take (length now - 1) now)) (unused_in g n (take (length now - 1) now))) u) ∙ and_true (eqb v w))
-  where
-    and_true : (b : Bool) → (b && true) ≡ b
-    and_true true = refl
-    and_true false = refl
-
-pub first-none : (g : PlainGraph) (n w : ℕ) (old now : List ℕ) → KeepsUnused g n [] old now → first_of now ≡ None → false ≡ begins (w ∷ []) (unused_in g n old)
-first-none g n w old [] k e = sym (ap (begins (w ∷ [])) (sym (k n (omega arith) (none-given _))))
-first-none g n w old (x ∷ now) k e = absurd (none (x ∷ now) (omega arith) e)
-  where
-    none : (xs : List ℕ) → 1 ≤ length xs → slice_get xs (length xs - 1) ≡ None → ⊥
-    none xs l e = go xs (length xs - 1) (omega arith) e
-      where
-        go : (xs : List ℕ) (i : ℕ) → i < length xs → slice_get xs i ≡ None → ⊥
-        go [] i l e = omega arith
-        go (x ∷ xs) zero l e = cc
-        go (x ∷ xs) (suc i) l e = go xs i (omega arith) e
-
 -- ## beginnings
-
-pub begins-not : (w : ℕ) (ws live : List ℕ) → begins (w ∷ []) live ≡ false → begins (w ∷ ws) live ≡ false
-begins-not w ws [] e = refl
-begins-not w ws (v ∷ live) e = go (eqb v w) e
-  where
-    go : (b : Bool) → (b && true) ≡ false → (b && begins ws live) ≡ false
-    go true q = cc
-    go false q = refl
 
 begins-rest : (w : ℕ) (ws live : List ℕ) → begins (w ∷ ws) (w ∷ live) ≡ begins ws live
 begins-rest w ws live = ap (λ b. b && begins ws live) (eq-eqb w w refl)
@@ -137,9 +103,6 @@ keeps-next g n w i wanted start cur now new q a k e r = λ m l h.
     unused-dropped g m w now new e r (each w (member-right (take i wanted) (w ∷ []) w (inl refl)))
     ∙ k m l (none-given _)
     ∙ a m l (All-members {P = λ w. is_used_within g m w ≡ true} (take i wanted) (λ v j. each v (member-left (take i wanted) (w ∷ []) v j)))
-
-pub keeps-all : (g : PlainGraph) (n i : ℕ) (wanted start cur now : List ℕ) → KeepsUnused g n (take i wanted) start cur → KeepsUnused g n [] cur now → KeepsUnused g n wanted start now
-keeps-all g n i wanted start cur now a k = λ m l h. k m l (none-given _) ∙ a m l (All-take (λ w. is_used_within g m w ≡ true) i wanted h)
 
 -- what a list begins with
 begun : (ws live : List ℕ) → begins ws live ≡ true → (rest : List ℕ) × (live ≡ ws ++ rest)

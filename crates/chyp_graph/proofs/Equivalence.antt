@@ -1,13 +1,9 @@
 -- Isomorphism of plain graphs is an equivalence.
 use Rattle.std.proofs.Common.{[], ℕ, ◌<◌, ◌≡◌, List, ◌∷◌, map, length, Option, Some, None, option_map, slice_get, refl, sym, ◌∙◌, ap, ap₂}
 use Rattle.chyp_term.proofs.Permuted.{Under, found}
-use Rattle.chyp_term.proofs.Positions.{map-map, map-id}
+use Rattle.chyp_term.proofs.Positions.{map-map}
 use Rattle.chyp_graph.specs.Isomorphism.{IsBijection, Isomorphic}
 use Rattle.chyp_graph.specs.PlainGraph.{Edge, PlainGraph, renamed}
-
-pub option-renamed-id : (o : Option Edge) → o ≡ option_map (renamed (λ w. w)) o
-option-renamed-id None = refl
-option-renamed-id (Some e) = ap Some (ap₂ (λ a b. record { name = e.name; sources = a; targets = b }) (sym (map-id e.sources)) (sym (map-id e.targets)))
 
 pub option-renamed-renamed : (f g : ℕ → ℕ) (o : Option Edge) → option_map (renamed f) (option_map (renamed g) o) ≡ option_map (renamed (λ w. f (g w))) o
 option-renamed-renamed f g None = refl
@@ -21,25 +17,8 @@ bijection-compose {f = f} {g = g} {f' = f'} {g' = g'} a b = record {
   back_there = λ i h. ap g (b.back_there (f i) (a.there i h)) ∙ a.back_there i h;
 }
 
-pub bijection-id : (n : ℕ) → IsBijection n n (λ i. i) (λ i. i)
-bijection-id n = record { there = λ i h. h; back = λ i h. h; there_back = λ i h. refl; back_there = λ i h. refl }
-
 pub bijection-sym : {m n : ℕ} {f g : ℕ → ℕ} → IsBijection m n f g → IsBijection n m g f
 bijection-sym a = record { there = a.back; back = a.there; there_back = a.back_there; back_there = a.there_back }
-
-pub Isomorphic-refl : (g : PlainGraph) → Isomorphic g g
-Isomorphic-refl g = record {
-  wire = λ w. w;
-  wire_back = λ w. w;
-  edge = λ k. k;
-  edge_back = λ k. k;
-  wires = bijection-id _;
-  edges = bijection-id _;
-  sorts = λ w h. refl;
-  ports = λ k h. option-renamed-id (slice_get g.edges k);
-  inputs = sym (map-id g.inputs);
-  outputs = sym (map-id g.outputs);
-}
 
 pub Isomorphic-trans : (g h k : PlainGraph) → Isomorphic g h → Isomorphic h k → Isomorphic g k
 Isomorphic-trans g h k a b = record {

@@ -21,13 +21,6 @@ use Rattle.chyp_judge.specs.declared.rewrite.Rewrite.{Rewrite}
 use Rattle.chyp_judge.specs.declared.walk.Walk.{Walk}
 use Rattle.chyp_judge.proofs.Walking.{edges-meet, end-no_port, ends-meet, meeting-alike, port-no_other_end, ports-meet}
 
--- a walk that stays where it is
-pub goes-nowhere : (w : Walk) → IsWalk w → GoesOn w w
-goes-nowhere w is = record { walk = is; rewrite = refl; kept = λ i p e. e }
-
-pub goes-further : (a b c : Walk) → GoesOn a b → GoesOn b c → GoesOn a c
-goes-further a b c x y = record { walk = y.walk; rewrite = y.rewrite ∙ x.rewrite; kept = λ i p e. y.kept i p (x.kept i p e) }
-
 -- what is among the items of a longer list
 longer : {A : Type 0} (xs : List A) (y : A) (i : ℕ) (x : A) → slice_get (xs ++ y ∷ []) i ≡ Some x
     → ((i < length xs) × (slice_get xs i ≡ Some x)) ⊎ ((i ≡ length xs) × (x ≡ y))
@@ -87,27 +80,6 @@ one-more a b p is within linked earlier same items ws es = record {
     at-earlier : (i : ℕ) (q : Partners) → (((i < length a.partners.items) × (slice_get a.partners.items i ≡ Some q)) ⊎ ((i ≡ length a.partners.items) × (q ≡ p))) → IfSome q.origin (λ j. j < i)
     at-earlier i q (inl h) = is.earlier i q h.1
     at-earlier i q (inr h) = subst (λ n. IfSome q.origin (λ j. j < n)) (sym h.0) (subst (λ x. IfSome x.origin (λ j. j < length a.partners.items)) (sym h.1) earlier)
-
--- more marks of edges, or other ones
-pub other-edges : (a b : Walk) → IsWalk a → b.rewrite ≡ a.rewrite → b.partners ≡ a.partners → b.wires ≡ a.wires → length b.edges.items ≡ length a.edges.items → GoesOn a b
-other-edges a b is same ps ws es = record {
-  walk = record {
-    rewrite = subst (λ r. IsRewrite r.now) (sym same) is.rewrite;
-    from_valid = subst (λ r. IsValid r.now.from) (sym same) is.from_valid;
-    to_valid = subst (λ r. IsValid r.now.to) (sym same) is.to_valid;
-    wires = ap (λ x. length x.items) ws ∙ is.wires ∙ ap (λ r. length r.now.from.wires) (sym same);
-    edges = es ∙ is.edges ∙ ap (λ r. length r.now.from.edges) (sym same);
-    within = λ i q e. subst (λ r. AreWithin r.now q.partner q.wire) (sym same) (is.within i q (back i q e));
-    linked = λ i q e. subst (λ r. AreLinked r.now b.partners.items q.origin q.partner q.wire) (sym same)
-        (subst (λ l. AreLinked a.rewrite.now l.items q.origin q.partner q.wire) (sym ps) (is.linked i q (back i q e)));
-    earlier = λ i q e. is.earlier i q (back i q e);
-  };
-  rewrite = same;
-  kept = λ i q e. ap (λ l. slice_get l.items i) ps ∙ e;
-}
-  where
-    back : (i : ℕ) (q : Partners) → slice_get b.partners.items i ≡ Some q → slice_get a.partners.items i ≡ Some q
-    back i q e = sym (ap (λ l. slice_get l.items i) ps) ∙ e
 
 -- what may be made partners still may when the walk has gone on
 pub may-still : (a b : Walk) (o : Option ℕ) (vs ws : List ℕ) → GoesOn a b → MayPartner a o vs ws → MayPartner b o vs ws

@@ -10,7 +10,7 @@ use Rattle.chyp_graph.proofs.Removing.{lit}
 use Rattle.chyp_pattern.specs.Occurrence.{IsOccurrence}
 use Rattle.chyp_pattern.specs.declared.occurrence.Occurrence.{Occurrence}
 use Rattle.chyp_judge.specs.Rewrite.{Reaches}
-use Rattle.chyp_judge.specs.Walk.{AreLinked, Differs, IsDifference, IsTraced, IsWalk, Meets, Reaching, Spares, SparesAll}
+use Rattle.chyp_judge.specs.Walk.{AreLinked, IsDifference, IsTraced, IsWalk, Meets, Reaching, Spares, SparesAll}
 use Rattle.chyp_judge.specs.declared.partners.Partners.{Partners}
 use Rattle.chyp_judge.specs.declared.rewrite.Rewrite.{Rewrite}
 use Rattle.chyp_judge.specs.declared.walk.Walk.{Walk}
@@ -19,11 +19,6 @@ use Rattle.chyp_judge.specs.declared.walk.Walk.{Walk}
 abbrev pub left_to : Option ℕ → ℕ
 left_to None = zero
 left_to (Some j) = suc j
-
--- it begins at the difference
-pub traced-first : (w : Walk) (marks : List Bool) (at : ℕ) → ((p : Partners) → slice_get w.partners.items at ≡ Some p → Differs w.rewrite.now p)
-    → IsTraced w.rewrite.now w.partners.items marks (Some at)
-traced-first w marks at differs p e r all a m = differs p e r a m
 
 -- fewer marks spare as much
 more-marked : (s : Rewrite) (r : Reaching s) (marks : List Bool) (w : ℕ) → w < length marks → SparesAll r (slice_set marks w true) → SparesAll r marks
@@ -59,11 +54,6 @@ back-there w is i p e b = go p.origin (is.earlier i p e)
     go : (o : Option ℕ) → IfSome o (λ j. j < i) → IfSome o (λ j. j < length w.partners.items)
     go None h = h
     go (Some j) h = omega arith
-
--- at the end no occurrence spares the path
-pub traced-whole : (w : Walk) → IsWalk w → (marks : List Bool) (o : Option ℕ) → o ≡ None → length marks ≡ length w.rewrite.now.from.wires
-    → IsTraced w.rewrite.now w.partners.items marks o → IsDifference w.rewrite.now marks
-traced-whole w is marks o e size traced = record { size = size; differ = subst (IsTraced w.rewrite.now w.partners.items marks) e traced }
 
 -- wires of which none is marked spare the marks
 pub spared-all : (marks : List Bool) (ws : List ℕ) → ((i w : ℕ) → slice_get ws i ≡ Some w → slice_get marks w ≡ Some false) → (w : ℕ) → slice_get marks w ≡ Some true → is_apart ws w ≡ true

@@ -1,8 +1,8 @@
 -- Boxes, lines and heights of a picture.
-use Rattle.std.proofs.Common.{ℕ, zero, suc, ◌+◌, ◌*◌, ◌/◌, ◌<◌, ◌≡◌, Bool, true, false, cond, max, List, [], ◌∷◌, map, length, take, get_or, Option, Some, None, option_map, slice_get, inl, inr, All, refl, sym, ◌∙◌, ap, ap₂, subst, arith}
+use Rattle.std.proofs.Common.{ℕ, zero, suc, ◌+◌, ◌*◌, ◌/◌, ◌<◌, ◌≡◌, Bool, true, false, cond, max, List, [], ◌∷◌, map, length, get_or, Option, Some, None, option_map, slice_get, inl, inr, All, refl, sym, ◌∙◌, ap, ap₂, subst, arith}
 use Rattle.std.specs.List.{enumerate_from, fold, range_with_len}
-use Rattle.std.proofs.lemmas.List.{length-map, map-append}
-use Rattle.std.proofs.lemmas.List.Sums.{fold_push, sum_by-cons}
+use Rattle.std.proofs.lemmas.List.{length-map}
+use Rattle.std.proofs.lemmas.List.Sums.{sum_by-cons}
 use Rattle.chyp_base.specs.declared.sort.Sort.{Sort}
 use Rattle.chyp_term.specs.Perm.{count_from}
 use Rattle.chyp_term.specs.Positions.{place_of}
@@ -12,7 +12,6 @@ use Rattle.chyp_term.proofs.Positions.{slice_get-length}
 use Rattle.chyp_graph.specs.PlainGraph.{Edge, PlainGraph}
 use Rattle.chyp_graph.specs.Validity.{IsValid}
 use Rattle.chyp_term.proofs.Members.{Member, map-member, All-from_get_members}
-use Rattle.chyp_term.proofs.Slices.{take-suc}
 use Rattle.chyp_graph.proofs.Removing.{port-edge}
 use Rattle.chyp_picture.specs.declared.box_at.BoxAt.{BoxAt}
 use Rattle.chyp_picture.specs.declared.end.End.{End}
@@ -114,15 +113,6 @@ rim-height g (w ∷ ws) = let e = sum_by-cons (λ t. height_of g t + 20) (Wire w
 
 pub height-start : (g : PlainGraph) (n : ℕ) → n ≡ 40 * max (length g.inputs) (length g.outputs) → n ≡ greatest (map (column_height g) (rim g Left ∷ rim g Right ∷ []))
 height-start g n e = let a = rim-height g g.inputs in let b = rim-height g g.outputs in omega arith
-
-pub height-more : (g : PlainGraph) (order : List (List Item)) (i : ℕ) (items : List Item) (n : ℕ) → slice_get order i ≡ Some items
-    → n ≡ greatest (map (column_height g) (rim g Left ∷ rim g Right ∷ take i order))
-    → max n (column_height g items) ≡ greatest (map (column_height g) (rim g Left ∷ rim g Right ∷ take (i + 1) order))
-height-more g order i items n h e =
-    ap (λ m. max m (column_height g items)) e
-    ∙ sym (ap (λ l. greatest (map (column_height g) (rim g Left ∷ rim g Right ∷ l))) (take-suc order i items h)
-    ∙ ap greatest (map-append (column_height g) (rim g Left ∷ rim g Right ∷ take i order) (items ∷ []))
-    ∙ fold_push max 0 (map (column_height g) (rim g Left ∷ rim g Right ∷ take i order)) (column_height g items))
 
 -- ## what the code makes
 

@@ -1,5 +1,5 @@
 -- The first order, box by box and wire by wire.
-use Rattle.std.proofs.Common.{ℕ, zero, suc, ◌+◌, ◌-◌, ◌<◌, ◌≤◌, ◌≡◌, ◌≢◌, Bool, true, false, cond, ◌&&◌, eqb, ltb, leb, max, List, [], ◌∷◌, ◌++◌, map, length, filter, take, replicate, Some, option_map, slice_get, slice_index, slice_set, ◌⊎◌, inl, inr, All, refl, sym, ◌∙◌, ap, ap₂, arith, append_assoc, length-append, eq-eqb, ne_eqb}
+use Rattle.std.proofs.Common.{ℕ, zero, suc, ◌+◌, ◌-◌, ◌<◌, ◌≤◌, ◌≡◌, ◌≢◌, Bool, true, false, cond, ◌&&◌, eqb, ltb, leb, max, List, [], ◌∷◌, ◌++◌, map, length, filter, take, replicate, Some, option_map, slice_get, slice_index, slice_set, ◌⊎◌, inl, inr, All, refl, sym, ◌∙◌, ap, ap₂, arith, append_assoc, eq-eqb, ne_eqb}
 use Rattle.std.specs.List.{enumerate_from, range_with_len}
 use Rattle.std.proofs.Math.ListN.{length-set}
 use Rattle.std.proofs.lemmas.Bool.{and_from, and_left, and_right, cases_eq, cases_lt, le-leb, le-ltb, lt-leb, lt-ltb}
@@ -174,9 +174,6 @@ bends-step columns ends w x c h =
     go true = refl
     go false = refl
 
-pub bends-none : (columns : List ℕ) (ends : List Ends) (order : List (List Item)) → order ≡ map (boxes_in columns) (range_with_len 1 (greatest columns)) → order ≡ first_order columns []
-bends-none columns ends order e = e ∙ map-on_range (boxes_in columns) (λ c. boxes_in columns c ++ []) 1 (greatest columns) (λ c l. sym (append-none (boxes_in columns c)))
-
 pub bends-more : (columns : List ℕ) (ends : List Ends) (w : ℕ) (x : Ends) (before after : List (List Item)) → slice_get ends w ≡ Some x → before ≡ first_order columns (take w ends)
     → AreExtended (λ _. Wire w) (end_column columns x.from) (end_column columns x.to - 1) before after → after ≡ first_order columns (take (w + 1) ends)
 bends-more columns ends w x before after h e t = same-items after (first_order columns (take (w + 1) ends)) (t.size ∙ size) at
@@ -211,17 +208,6 @@ bends-more columns ends w x before after h e t = same-items after (first_order c
 -- how many columns there are
 pub length-first : (columns : List ℕ) (ends : List Ends) → length (first_order columns ends) ≡ greatest columns
 length-first columns ends = length-map (range_with_len 1 (greatest columns)) (λ c. boxes_in columns c ++ bends_in columns ends c) ∙ length-range 1 (greatest columns)
-
-pub replicate-push : {A : Type 0} (x : A) (xs : List A) → xs ≡ replicate (length xs) x → xs ++ x ∷ [] ≡ replicate (length (xs ++ x ∷ [])) x
-replicate-push x xs e = let a = length-append xs (x ∷ []) in let b : suc (length xs) ≡ length (xs ++ x ∷ []) = omega arith in ap (λ l. l ++ x ∷ []) e ∙ go (length xs) ∙ ap (λ n. replicate n x) b
-  where
-    go : (n : ℕ) → replicate n x ++ x ∷ [] ≡ replicate (suc n) x
-    go zero = refl
-    go (suc n) = ap (λ l. x ∷ l) (go n)
-
--- the columns that are made, when they are enough
-pub replicate-all : {A : Type 0} (x : A) (xs : List A) (n : ℕ) → xs ≡ replicate (length xs) x → length xs ≡ n → xs ≡ replicate n x
-replicate-all x xs n e l = e ∙ ap (λ n. replicate n x) l
 
 -- a column that is read from a list
 pub column-at : (cs columns : List ℕ) (k : ℕ) → cs ≡ columns → k < length cs → All (λ n. (0 < n) × (n ≤ greatest columns)) columns

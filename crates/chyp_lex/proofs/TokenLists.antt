@@ -9,10 +9,6 @@ use Rattle.chyp_lex.specs.Tokens.{IsNext, token_at, AreTokensFrom, nothing_left,
 use Rattle.chyp_lex.specs.Longest.{next_of}
 use Rattle.chyp_lex.proofs.Pieces.{IsNext-next, next-fits, IsNext-is, IsNext-fits, next-is_next}
 
-nil_from_length : (text : List ℕ) → length text ≡ 0 → text ≡ []
-nil_from_length [] h = refl
-nil_from_length (b ∷ rest) h = absurd (omega arith)
-
 -- existence
 
 extended : (start n : ℕ) (text : List ℕ) (kind : Option TokenKind) → IsNext text n kind → (tokens : List Token) × AreTokensFrom (start + n) (drop n text) tokens → (tokens : List Token)

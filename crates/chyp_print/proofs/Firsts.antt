@@ -11,10 +11,6 @@ use Rattle.chyp_env.specs.Environment.{Binding, Sense, abbreviation, broken, gen
 use Rattle.chyp_print.specs.Environments.{first_binding, is_generator}
 use Rattle.chyp_print.specs.FirstNames.{IsIndex, IsNoted, first_number, is_named, number_of, or_else}
 
-or_else-none : (o : Option ℕ) → or_else o None ≡ o
-or_else-none None = refl
-or_else-none (Some n) = refl
-
 -- the number of one more binding
 first_number-append : (k : ℕ) (name : List ℕ) (env : List Binding) (b : Binding)
     → first_number k name (env ++ b ∷ []) ≡ or_else (first_number k name env) (cond (is_named name b.sense) (Some (k + length env)) None)

@@ -1,20 +1,11 @@
 -- Marks of images, one after the other.
-use Rattle.std.proofs.Common.{ℕ, ◌+◌, ◌<◌, ◌≤◌, ◌≡◌, ◌≢◌, Bool, true, false, List, [], ◌∷◌, ◌++◌, length, take, replicate, Some, slice_get, slice_set, ◌⊎◌, inl, inr, sym, ◌∙◌, ap, subst, arith}
+use Rattle.std.proofs.Common.{ℕ, ◌+◌, ◌<◌, ◌≡◌, ◌≢◌, Bool, true, List, [], ◌∷◌, ◌++◌, length, take, Some, slice_get, slice_set, ◌⊎◌, inl, inr, sym, ◌∙◌, ap, arith}
 use Rattle.std.proofs.lemmas.Bool.{cases_eq}
-use Rattle.std.proofs.lemmas.List.{get_or-replicate, length-replicate, take_all}
 use Rattle.std.proofs.Math.ListN.{length-set}
 use Rattle.chyp_term.specs.Positions.{is_among, is_there}
-use Rattle.chyp_term.proofs.Closure.{get-item}
 use Rattle.chyp_term.proofs.Slices.{get-set_other, get-set_same, take-suc}
 use Rattle.chyp_replace.specs.Images.{AreMarked}
 use Rattle.chyp_replace.proofs.Places.{among-new, place-other}
-
-get-replicate : (n k : ℕ) (b : Bool) → k < n → slice_get (replicate n b) k ≡ Some b
-get-replicate n k b h = get-item (replicate n b) k b (let l = length-replicate n b in omega arith) (sym (get_or-replicate n k b b h))
-
--- nothing is marked at first
-pub marked-start : (n : ℕ) (marks : List Bool) → marks ≡ replicate n false → AreMarked [] n marks
-marked-start n marks e = record { size = ap length e ∙ length-replicate n false; each = λ k h. ap (λ l. slice_get l k) e ∙ get-replicate n k false h }
 
 -- one image more
 pub marked-more : (images : List ℕ) (n : ℕ) (marks after : List Bool) (i x : ℕ) → slice_get images i ≡ Some x → x < n
@@ -31,7 +22,3 @@ marked-more images n marks after i x g b m e = record {
     at k h (inr q) =
         ap (λ l. slice_get l k) e ∙ get-set_other marks x k true q ∙ m.each k h
         ∙ ap (λ b. Some b) (sym (ap (λ l. is_among l k) (take-suc images i x g) ∙ ap is_there (place-other k x (take i images) (λ r. q (sym r)))))
-
--- all images
-pub marked-all : (images : List ℕ) (n i : ℕ) (marks : List Bool) → length images ≤ i → AreMarked (take i images) n marks → AreMarked images n marks
-marked-all images n i marks h m = subst (λ l. AreMarked l n marks) (take_all i images h) m

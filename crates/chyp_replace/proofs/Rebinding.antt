@@ -1,7 +1,7 @@
 -- Ends that are put in the places of wires, one after the other.
-use Rattle.std.proofs.Common.{ℕ, ◌+◌, ◌<◌, ◌≤◌, ◌≡◌, ◌≢◌, List, [], ◌∷◌, ◌++◌, length, take, Some, slice_index, slice_set, ◌⊎◌, inl, inr, sym, ◌∙◌, ap, subst, arith, get_or-set_other, get_or-set_same}
+use Rattle.std.proofs.Common.{ℕ, ◌+◌, ◌<◌, ◌≡◌, ◌≢◌, List, [], ◌∷◌, ◌++◌, length, take, Some, slice_index, slice_set, ◌⊎◌, inl, inr, sym, ◌∙◌, ap, arith, get_or-set_other, get_or-set_same}
 use Rattle.std.proofs.lemmas.Bool.{cases_eq}
-use Rattle.std.proofs.lemmas.List.{length-take, take_all}
+use Rattle.std.proofs.lemmas.List.{length-take}
 use Rattle.std.proofs.Math.ListN.{length-set}
 use Rattle.chyp_term.specs.Positions.{place_of}
 use Rattle.chyp_term.proofs.Closure.{get-index}
@@ -9,9 +9,6 @@ use Rattle.chyp_graph.specs.Composition.{joined_at}
 use Rattle.chyp_term.proofs.Slices.{take-suc}
 use Rattle.chyp_replace.specs.Numbers.{AreApart, AreRebound}
 use Rattle.chyp_replace.proofs.Places.{item-new, place-new, place-other}
-
-pub rebound-start : (ends before after : List ℕ) → after ≡ before → AreRebound [] ends before after
-rebound-start ends before after e = record { size = ap length e; each = λ w h. ap (λ l. slice_index l w) e }
 
 pub rebound-more : (wires ends before table after : List ℕ) (i : ℕ) → i < length wires → slice_index wires i < length before
     → AreApart wires
@@ -35,6 +32,3 @@ rebound-more wires ends before table after i h b apart r e = record {
     at w l (inr q) =
         ap (λ t. slice_index t w) e ∙ get_or-set_other table (slice_index wires i) w (slice_index ends i) 0 q ∙ r.each w l
         ∙ sym (ap (joined_at ends (slice_index before w)) (ap (place_of w) grown ∙ place-other w (slice_index wires i) (take i wires) (λ s. q (sym s))))
-
-pub rebound-all : (wires ends before table : List ℕ) (i : ℕ) → length wires ≤ i → AreRebound (take i wires) ends before table → AreRebound wires ends before table
-rebound-all wires ends before table i h r = subst (λ l. AreRebound l ends before table) (take_all i wires h) r

@@ -40,17 +40,6 @@ writes-part a b f g x (Err y) xs ys is w = record {
   rose = w.rose;
 }
 
--- whatever the error, what was written stays
-pub writes-alike : {T S E F : Type 0} (a b : Option (List ℕ)) (f g : ℕ) (x : E) (result : Result S F) (xs : List ℕ) → IsErr result
-    → Writes {T = T} {E = E} a b f g (Err x) xs → Writes a b f g result xs
-writes-alike a b f g x (Ok y) xs is w = absurd cc
-writes-alike a b f g x (Err y) xs is w = record {
-  whole = tt;
-  kept = tt;
-  prefix = w.prefix;
-  rose = w.rose;
-}
-
 -- a text that was written whole, where nothing failed
 pub written : {T E : Type 0} (a b : Option (List ℕ)) (f g : ℕ) (x : T) (xs : List ℕ) → Appends a b xs → g ≡ f → Writes {T = T} {E = E} a b f g (Ok x) xs
 written a b f g x xs whole kept = record {
