@@ -19,7 +19,7 @@ use Rattle.chyp_work.specs.Replacement.{Fits, IsCovered, ReplacedIsReplaced, mov
 use Rattle.chyp_work.proofs.Nets.{there-member}
 use Rattle.chyp_work.proofs.Places.{apart-places, ids-zip, index-member, items-zip, kept-items, kept-length, place-behind, place-distinct, place-images, place-kept, place-of-index}
 
-length-mapped : {A B : Type 0} (f : A → B) (xs : List A) → length (map f xs) ≡ length xs
+pub length-mapped : {A B : Type 0} (f : A → B) (xs : List A) → length (map f xs) ≡ length xs
 length-mapped f [] = refl
 length-mapped f (x ∷ xs) = ap suc (length-mapped f xs)
 
@@ -31,12 +31,12 @@ get-mapped f (y ∷ ys) (suc i) x h = get-mapped f ys i x h
 alike : {A B C D : Type 0} (f : B → D) (g : A → B) (p : C → D) (q : A → C) (xs : List A) → ((x : A) → Member x xs → f (g x) ≡ p (q x)) → map f (map g xs) ≡ map p (map q xs)
 alike f g p q xs h = map-map f g xs ∙ map-same_on (λ x. f (g x)) (λ x. p (q x)) xs h ∙ sym (map-map p q xs)
 
-all-member : (p : ℕ → Type 0) (xs : List ℕ) → All p xs → (x : ℕ) → Member x xs → p x
+pub all-member : (p : ℕ → Type 0) (xs : List ℕ) → All p xs → (x : ℕ) → Member x xs → p x
 all-member p [] a x m = absurd m
 all-member p (y ∷ ys) a x (inl e) = subst p e (All-head p y ys a)
 all-member p (y ∷ ys) a x (inr m) = all-member p ys (All-tail p y ys a) x m
 
-all-items : {X : Type 0} (p : X → Type 0) (xs : List X) → All p xs → (x : X) → Member x xs → p x
+pub all-items : {X : Type 0} (p : X → Type 0) (xs : List X) → All p xs → (x : X) → Member x xs → p x
 all-items p [] a x m = absurd m
 all-items p (y ∷ ys) a x (inl e) = subst p e (All-head p y ys a)
 all-items p (y ∷ ys) a x (inr m) = all-items p ys (All-tail p y ys a) x m
@@ -52,7 +52,7 @@ module _ (n : Net) (l r : PlainGraph) (es ws ds vs : List ℕ) (sound : IsSound 
   pes = map (place_in (ids n.edges)) es
 
   -- the numbers of the new graph's wires
-  new-ids : ids (replaced_in n l r es ws ds vs).wires ≡ ids (filter (λ e. is_apart ws e.0) n.wires) ++ vs
+  pub new-ids : ids (replaced_in n l r es ws ds vs).wires ≡ ids (filter (λ e. is_apart ws e.0) n.wires) ++ vs
   new-ids = map-append (λ (e : ℕ × Sort). e.0) (filter (λ e. is_apart ws e.0) n.wires) (zip vs r.wires) ∙ ap (λ t. ids (filter (λ e. is_apart ws e.0) n.wires) ++ t) (ids-zip vs r.wires fits.new_wires)
 
   wire-test : (i : ℕ) (e : ℕ × Sort) → slice_get n.wires i ≡ Some e → is_apart (map (place_in (ids n.wires)) ws) (0 + i) ≡ is_apart ws e.0

@@ -74,7 +74,7 @@ module _ (n : Net) (sound : IsSound n) where
           let d = member-flat (λ (e : Edge). e.sources) edges (renamed f edge) (f w) b a in
           parts-apart (length (plain n).wires) (plain n).outputs (sources_of edges) sound.valid.consumers (f w) (member-map f n.outputs w (Contains-member n.outputs w c)) d
 
-none-absent : (xs : List ℕ) (w : ℕ) → place_of w xs ≡ None → Member w xs → ⊥
+pub none-absent : (xs : List ℕ) (w : ℕ) → place_of w xs ≡ None → Member w xs → ⊥
 none-absent xs w e m = let a = member-among xs w m in let b : is_there (place_of w xs) ≡ false = rw e refl in absurd (cc)
 
 -- the place of a number that stands in a list leads back to it

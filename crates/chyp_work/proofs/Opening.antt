@@ -26,7 +26,7 @@ use Rattle.chyp_work.proofs.Places.{ids-zip, index-member, items-zip, place-of-i
 
 -- ## lists
 
-member-there : {X : Type 0} (w : ℕ) (items : List (ℕ × X)) → Member w (ids items) → IsIn w items
+pub member-there : {X : Type 0} (w : ℕ) (items : List (ℕ × X)) → Member w (ids items) → IsIn w items
 member-there w [] m = absurd m
 member-there {X} w (e ∷ es) m = by (cases_eq w e.0) m (member-there w es)
   where
@@ -35,13 +35,13 @@ member-there {X} w (e ∷ es) m = by (cases_eq w e.0) m (member-there w es)
     by (inr n) (inl q) r = absurd (n (sym q))
     by (inr n) (inr m) r = rw (ne_eqb w e.0 n) (r m)
 
-zip-member : {X : Type 0} (ds : List ℕ) (xs : List X) (e : ℕ × X) → Member e (zip ds xs) → Member e.1 xs
+pub zip-member : {X : Type 0} (ds : List ℕ) (xs : List X) (e : ℕ × X) → Member e (zip ds xs) → Member e.1 xs
 zip-member [] xs e m = absurd m
 zip-member (d ∷ ds) [] e m = absurd m
 zip-member {X} (d ∷ ds) (x ∷ xs) e (inl q) = inl (ap (λ (e : ℕ × X). e.1) q)
 zip-member (d ∷ ds) (x ∷ xs) e (inr m) = inr (zip-member ds xs e m)
 
-map-fixed : {A : Type 0} (h : A → A) (xs : List A) → ((x : A) → Member x xs → h x ≡ x) → map h xs ≡ xs
+pub map-fixed : {A : Type 0} (h : A → A) (xs : List A) → ((x : A) → Member x xs → h x ≡ x) → map h xs ≡ xs
 map-fixed h [] e = refl
 map-fixed h (x ∷ xs) e = let a = e x (inl refl) in let b = map-fixed h xs (λ y m. e y (inr m)) in λ i. a i ∷ b i
 
@@ -60,10 +60,10 @@ ports-below g v e m =
     let i = member-get g.edges e m in
     all-get (λ (e : Edge). All (λ w. w < length g.wires) e.sources × All (λ w. w < length g.wires) e.targets) g.edges i.0 e (edges-within g v (length g.wires) refl) i.1
 
-source-below : (g : PlainGraph) → IsValid g → (e : Edge) → Member e g.edges → (w : ℕ) → Member w e.sources → w < length g.wires
+pub source-below : (g : PlainGraph) → IsValid g → (e : Edge) → Member e g.edges → (w : ℕ) → Member w e.sources → w < length g.wires
 source-below g v e m w s = all-member (length g.wires) e.sources w (ports-below g v e m).0 s
 
-target-below : (g : PlainGraph) → IsValid g → (e : Edge) → Member e g.edges → (w : ℕ) → Member w e.targets → w < length g.wires
+pub target-below : (g : PlainGraph) → IsValid g → (e : Edge) → Member e g.edges → (w : ℕ) → Member w e.targets → w < length g.wires
 target-below g v e m w t = all-member (length g.wires) e.targets w (ports-below g v e m).1 t
 
 -- ## a graph under fresh numbers

@@ -3,3 +3,4 @@ pub mod Filling
 pub mod Net
 pub mod Replacement
 pub mod Rerouting
+pub mod Step

@@ -1,0 +1,31 @@
+-- A step: at an occurrence of one side of a rule, the other side comes in its place.
+use Rattle.std.specs.Prelude.{ℕ, ◌+◌, ◌<◌, ◌≡◌, ◌^◌, true, All, List, length, map}
+use Rattle.chyp_term.proofs.Members.{Member}
+use Rattle.chyp_term.specs.Positions.{is_apart}
+use Rattle.chyp_graph.specs.PlainGraph.{PlainGraph}
+use Rattle.chyp_match.specs.View.{IsIn, Net}
+use Rattle.chyp_pattern.specs.Occurrence.{IsOccurrence}
+use Rattle.chyp_pattern.specs.Replacement.{IsGraphRule, replaced}
+use Rattle.chyp_store.specs.Items.{ids}
+use Rattle.chyp_work.specs.Net.{place_in, plain}
+
+-- the places of these edges in the plain graph
+abbrev pub edge_places : Net → List ℕ → List ℕ
+edge_places n es = map (place_in (ids n.edges)) es
+
+-- the places of these wires in the plain graph
+abbrev pub wire_places : Net → List ℕ → List ℕ
+wire_places n ws = map (place_in (ids n.wires)) ws
+
+-- the left side of the rule occurs at these edges and wires, which are there, and the right side fits beside what is there
+pub record MayStep (n : Net) (l r : PlainGraph) (es ws : List ℕ) : Type 0 where
+  pub rule : IsGraphRule l r
+  pub edges : All (λ k. IsIn k n.edges) es
+  pub wires : All (λ w. IsIn w n.wires) ws
+  pub occurrence : IsOccurrence l (plain n) (edge_places n es) (wire_places n ws)
+  pub few_wires : length n.wires + length r.wires < 2 ^ 31
+  pub few_edges : length n.edges + length r.edges < 2 ^ 31
+
+-- the plain graph of m is that of n with the left side replaced by the right one at these edges and wires
+abbrev pub IsStep : Net → PlainGraph → PlainGraph → List ℕ → List ℕ → Net → Type 0
+IsStep n l r es ws m = plain m ≡ replaced (plain n) l r (edge_places n es) (wire_places n ws)
