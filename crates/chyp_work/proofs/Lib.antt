@@ -3,6 +3,7 @@ pub mod Bridge
 pub mod Distinct
 pub mod Fillings
 pub mod Items
+pub mod Joining
 pub mod Moving
 pub mod Nets
 pub mod Noting

@@ -1,13 +1,16 @@
 -- A step: at an occurrence of one side of a rule, the other side comes in its place.
-use Rattle.std.specs.Prelude.{ℕ, ◌+◌, ◌<◌, ◌≡◌, ◌^◌, true, All, List, length, map}
-use Rattle.chyp_term.proofs.Members.{Member}
+use Rattle.std.specs.Prelude.{ℕ, ◌+◌, ◌<◌, ◌≡◌, ◌^◌, true, All, List, ◌++◌, length, map, slice_index}
 use Rattle.chyp_term.specs.Positions.{is_apart}
 use Rattle.chyp_graph.specs.PlainGraph.{PlainGraph}
 use Rattle.chyp_match.specs.View.{IsIn, Net}
 use Rattle.chyp_pattern.specs.Occurrence.{IsOccurrence}
 use Rattle.chyp_pattern.specs.Replacement.{IsGraphRule, replaced}
-use Rattle.chyp_store.specs.Items.{ids}
+use Rattle.chyp_store.specs.Items.{AreDistinct, ids}
+use Rattle.chyp_work.specs.Board.{IsFiled, net}
+use Rattle.chyp_work.specs.Filling.{KnowsMaker, KnowsUser, with_graph}
 use Rattle.chyp_work.specs.Net.{place_in, plain}
+use Rattle.chyp_work.specs.Rerouting.{made_by, used_by}
+use Rattle.chyp_work.specs.declared.board.Board.{Board}
 
 -- the places of these edges in the plain graph
 abbrev pub edge_places : Net → List ℕ → List ℕ
@@ -29,3 +32,18 @@ pub record MayStep (n : Net) (l r : PlainGraph) (es ws : List ℕ) : Type 0 wher
 -- the plain graph of m is that of n with the left side replaced by the right one at these edges and wires
 abbrev pub IsStep : Net → PlainGraph → PlainGraph → List ℕ → List ℕ → Net → Type 0
 IsStep n l r es ws m = plain m ≡ replaced (plain n) l r (edge_places n es) (wire_places n ws)
+
+-- c is b with the wires and the edges of r, where the ends of r have taken the places of the images of those of l, and where
+-- each wire that is no image knows its ends
+pub record IsJoined (b c : Board) (l r : PlainGraph) (ws : List ℕ) : Type 0 where
+  pub ds : List ℕ
+  pub vs : List ℕ
+  pub edge_count : length ds ≡ length r.edges
+  pub wire_count : length vs ≡ length r.wires
+  pub edges_apart : AreDistinct (ids (net b).edges ++ ds)
+  pub wires_apart : AreDistinct (ids (net b).wires ++ vs)
+  pub graph : net c ≡ used_by (map (slice_index ws) l.outputs) (map (slice_index vs) r.outputs)
+      (made_by (map (slice_index ws) l.inputs) (map (slice_index vs) r.inputs) (with_graph (net b) r ds vs))
+  pub makers : (w : ℕ) → is_apart ws w ≡ true → KnowsMaker c w
+  pub users : (w : ℕ) → is_apart ws w ≡ true → KnowsUser c w
+  pub filed : IsFiled c

@@ -11,13 +11,13 @@ pub reroute_consumer-requires-clause-from : goal.reroute_consumer-requires-claus
 reroute_consumer-requires-clause-from c =
     let w = c.index-images-i.result in
     let g : slice_get c.args.images.now c.loop-i.i ≡ Some w = get-item _ _ _ c.loop-i-test.true c.index-images-i.is in
-    c.loop-i.invariant.there w (c.requires.images w (get-member c.args.images.now c.loop-i.i w g))
+    c.loop-i.invariant.there w (c.requires.images_there w (get-member c.args.images.now c.loop-i.i w g))
 
 pub reroute_consumer-requires-clause-to : goal.reroute_consumer-requires-clause-to
 reroute_consumer-requires-clause-to c =
     let v = c.index-ends-i.result in
     let e : slice_get c.args.ends.now c.loop-i.i ≡ Some v = get-item c.args.ends.now c.loop-i.i v (let s = c.requires.same in let t = c.loop-i-test.true in omega arith) c.index-ends-i.is in
-    c.loop-i.invariant.there v (c.requires.ends v (get-member c.args.ends.now c.loop-i.i v e))
+    c.loop-i.invariant.there v (c.requires.ends_there v (get-member c.args.ends.now c.loop-i.i v e))
 
 pub reroute_consumer-requires-clause-end : goal.reroute_consumer-requires-clause-end
 reroute_consumer-requires-clause-end c =
@@ -37,7 +37,7 @@ loop-i-preserved c =
     let e : slice_get c.args.ends.now c.loop-i.i ≡ Some v = get-item c.args.ends.now c.loop-i.i v (let s = c.requires.same in let t = c.loop-i-test.true in omega arith) c.index-ends-i.is in
     let r = c.reroute_consumer.ensures in
     turn-more c.args.board.now c.loop-i.board c.reroute_consumer.new.self c.args.images.now c.args.ends.now c.loop-i.i w v g e c.loop-i.invariant c.requires.apart c.requires.ends_apart
-    c.requires.other c.requires.known (c.loop-i.invariant.there w (c.requires.images w (get-member c.args.images.now c.loop-i.i w g))) r.graph r.at c.apart.ensures r.inputs r.lists r.filed
+    c.requires.other c.requires.known (c.loop-i.invariant.there w (c.requires.images_there w (get-member c.args.images.now c.loop-i.i w g))) r.graph r.at c.apart.ensures r.inputs r.lists r.filed
 
 pub returns-clause-kept : goal.returns-clause-kept
 returns-clause-kept c =
