@@ -179,7 +179,7 @@ pub record UsesEnds (b c : Board) (images ends : List ℕ) : Type 0 where
   pub makers : (w : ℕ) → KnowsMaker b w → KnowsMaker c w
   pub filed : IsFiled b → IsFiled c
 
-net-ids : (b : Board) → ids (net b).wires ≡ ids b.wires.items
+pub net-ids : (b : Board) → ids (net b).wires ≡ ids b.wires.items
 net-ids b = ids-map (λ (item : WireItem). item.sort) b.wires.items
 
 module _ (a b : Board) (l r : PlainGraph) (es ws ds vs : List ℕ) (work : IsWork a) (s : MayStep (net a) l r es ws) (p : IsPut a b r ds vs) where

@@ -4,6 +4,7 @@ pub mod Distinct
 pub mod Fillings
 pub mod Items
 pub mod Joining
+pub mod Leaving
 pub mod Moving
 pub mod Nets
 pub mod Noting

@@ -55,7 +55,7 @@ moved-same ws vs inner ends same w = by (place_of w (map (slice_index ws) inner)
         let b = length-mapped (slice_index ws) inner in
         rw e (index-map (slice_index vs) ends i (omega arith))
 
-kept-map : {X Y : Type 0} (ks : List ℕ) (g : ℕ × X → Y) (xs : List (ℕ × X)) → without_all ks (map {B = ℕ × Y} (λ e. (e.0, g e)) xs) ≡ map {B = ℕ × Y} (λ e. (e.0, g e)) (without_all ks xs)
+pub kept-map : {X Y : Type 0} (ks : List ℕ) (g : ℕ × X → Y) (xs : List (ℕ × X)) → without_all ks (map {B = ℕ × Y} (λ e. (e.0, g e)) xs) ≡ map {B = ℕ × Y} (λ e. (e.0, g e)) (without_all ks xs)
 kept-map ks g [] = refl
 kept-map {X} {Y} ks g (e ∷ es) = by (is_apart ks e.0) refl (kept-map ks g es)
   where
