@@ -7,10 +7,12 @@ use Rattle.chyp_pattern.specs.Occurrence.{IsOccurrence}
 use Rattle.chyp_pattern.specs.Replacement.{IsGraphRule, replaced}
 use Rattle.chyp_store.specs.Items.{AreDistinct, ids}
 use Rattle.chyp_work.specs.Board.{IsFiled, net}
-use Rattle.chyp_work.specs.Filling.{KnowsMaker, KnowsUser, with_graph}
+use Rattle.chyp_work.specs.Filling.{AreParts, KnowsMaker, KnowsUser, with_graph}
 use Rattle.chyp_work.specs.Net.{place_in, plain}
 use Rattle.chyp_work.specs.Rerouting.{made_by, used_by}
 use Rattle.chyp_work.specs.declared.board.Board.{Board}
+use Rattle.chyp_work.specs.declared.step.Site.{Site}
+use Rattle.chyp_work.specs.declared.step.Taken.{Taken}
 
 -- the places of these edges in the plain graph
 abbrev pub edge_places : Net → List ℕ → List ℕ
@@ -47,3 +49,23 @@ pub record IsJoined (b c : Board) (l r : PlainGraph) (ws : List ℕ) : Type 0 wh
   pub makers : (w : ℕ) → is_apart ws w ≡ true → KnowsMaker c w
   pub users : (w : ℕ) → is_apart ws w ≡ true → KnowsUser c w
   pub filed : IsFiled c
+
+-- a step may be made there
+abbrev pub MayStepAt : Net → Site → Type 0
+MayStepAt n site = MayStep n site.left.now site.right.now site.at.now.edges site.at.now.wires
+
+-- m is n after the step there
+abbrev pub IsStepAt : Net → Site → Net → Type 0
+IsStepAt n site m = IsStep n site.left.now site.right.now site.at.now.edges site.at.now.wires m
+
+-- c is b, where the ends of the right side have taken the places of images
+abbrev pub IsJoinedAt : Board → Site → Board → Type 0
+IsJoinedAt b site c = IsJoined b c site.left.now site.right.now site.at.now.wires
+
+-- what a step there has of its own
+pub record AreTaken (site : Site) (taken : Taken) : Type 0 where
+  pub parts : AreParts site.right.now taken.parts
+  pub image_inputs : taken.images.inputs.items ≡ map (slice_index site.at.now.wires) site.left.now.inputs
+  pub image_outputs : taken.images.outputs.items ≡ map (slice_index site.at.now.wires) site.left.now.outputs
+  pub inputs : taken.ends.inputs.items ≡ site.right.now.inputs
+  pub outputs : taken.ends.outputs.items ≡ site.right.now.outputs

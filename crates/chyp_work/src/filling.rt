@@ -16,9 +16,9 @@ use std::alloc::Global;
 
 /// The inputs and the outputs of a graph.
 #[derive(Drop)]
-struct Ends {
-    inputs: Vec<WireId>,
-    outputs: Vec<WireId>,
+pub(crate) struct Ends {
+    pub(crate) inputs: Vec<WireId>,
+    pub(crate) outputs: Vec<WireId>,
 }
 
 /// The numbers that the wires and the edges of a graph got, in order.
@@ -77,7 +77,7 @@ pub(crate) fn board_of(graph: &Graph) -> Result<Board, NoMemory>
 }
 
 /// The inputs and the outputs of the graph.
-fn ends_of(alloc: Global, graph: &Graph) -> Result<Ends, NoMemory>
+pub(crate) fn ends_of(alloc: Global, graph: &Graph) -> Result<Ends, NoMemory>
     ensures inputs { IfOk result (λ ends. ends.inputs.items ≡ graph.now.inputs) }
     ensures outputs { IfOk result (λ ends. ends.outputs.items ≡ graph.now.outputs) }
 {

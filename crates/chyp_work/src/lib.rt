@@ -15,6 +15,7 @@ mod laws;
 mod parts;
 mod plain;
 mod rewiring;
+mod step;
 mod work;
 
 pub use laws::{replaced_by_numbers, reroutes_are_substitutions};

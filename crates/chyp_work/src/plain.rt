@@ -93,7 +93,11 @@ fn part_of(alloc: Global, item: &EdgeItem, places: &[WireId]) -> Result<EdgePart
 }
 
 /// The places of these wires.
-fn wires_at(alloc: Global, wires: &[WireId], places: &[WireId]) -> Result<Vec<WireId>, NoMemory>
+pub(crate) fn wires_at(
+    alloc: Global,
+    wires: &[WireId],
+    places: &[WireId],
+) -> Result<Vec<WireId>, NoMemory>
     requires { All (λ w. w < length places.now) wires.now }
     ensures { IfOk result (λ at. at.items ≡ map (slice_index places.now) wires.now) }
 {
