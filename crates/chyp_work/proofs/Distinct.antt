@@ -1,7 +1,7 @@
 -- Lists in which no number stands twice.
-use Rattle.std.proofs.Common.{ℕ, suc, ◌<◌, ◌≡◌, true, List, [], ◌∷◌, ◌++◌, length, map, flat_map, Option, Some, None, slice_index, ◌⊎◌, inl, inr, sym, ◌∙◌, ap, subst, refl, arith}
+use Rattle.std.proofs.Common.{ℕ, suc, ◌<◌, ◌≡◌, List, [], ◌∷◌, ◌++◌, length, map, flat_map, Option, Some, None, slice_index, ◌⊎◌, inl, inr, sym, ◌∙◌, ap, subst, refl, arith}
 use Rattle.chyp_term.specs.Perm.{IsPermutation}
-use Rattle.chyp_term.specs.Positions.{is_apart, place_of}
+use Rattle.chyp_term.specs.Positions.{place_of}
 use Rattle.chyp_term.proofs.Closure.{index-get}
 use Rattle.chyp_term.proofs.Members.{Member, map-member, member-flat, member-get, member-map, member-not_apart, member-split, not_member-apart}
 use Rattle.chyp_term.proofs.Positions.{slice_get-length, some-same}

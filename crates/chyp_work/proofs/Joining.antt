@@ -19,7 +19,6 @@ use Rattle.chyp_work.specs.Net.{IsSound}
 use Rattle.chyp_work.specs.Rerouting.{MayReroute, made_by, made_in, moved_by, used_by, used_in}
 use Rattle.chyp_work.specs.Step.{IsJoined, MayStep}
 use Rattle.chyp_work.specs.declared.board.Board.{Board}
-use Rattle.chyp_work.specs.declared.board.EdgeItem.{EdgeItem}
 use Rattle.chyp_work.specs.declared.board.WireItem.{WireItem}
 use Rattle.chyp_work.proofs.Boards.{ids-map}
 use Rattle.chyp_work.proofs.Bridge.{all-items, all-member, length-mapped}

@@ -1,5 +1,5 @@
 -- Boards that the image of an occurrence is taken out of.
-use Rattle.std.proofs.Common.{ℕ, ◌+◌, ◌<◌, ◌≤◌, ◌≡◌, Bool, true, false, not, eqb, All, List, [], ◌∷◌, ◌++◌, length, map, filter, flat_map, Option, Some, None, slice_get, slice_index, ◌⊎◌, inl, inr, refl, sym}
+use Rattle.std.proofs.Common.{ℕ, ◌≤◌, ◌≡◌, Bool, true, false, not, eqb, List, [], ◌∷◌, ◌++◌, length, map, flat_map, Option, Some, None, slice_get, slice_index, ◌⊎◌, inl, inr, refl, sym}
 use Rattle.std.proofs.Common.{◌∙◌, ap, subst, arith, length-append, ne_eqb, eq-eqb, eqb-true, ◌≢◌}
 use Rattle.std.specs.List.{zip}
 use Rattle.std.specs.Prelude.{option_map}
@@ -9,7 +9,7 @@ use Rattle.std.proofs.lemmas.List.Filters.{length-filter_both}
 use Rattle.chyp_base.specs.declared.sort.Sort.{Sort}
 use Rattle.chyp_term.specs.Perm.{IsPermutation}
 use Rattle.chyp_term.specs.Positions.{is_apart}
-use Rattle.chyp_term.proofs.Members.{Member, filter-member, get-member, map-member, member-left, member-map, member-not_apart, not_member-apart}
+use Rattle.chyp_term.proofs.Members.{Member, filter-member, get-member, map-member, member-left, member-not_apart, not_member-apart}
 use Rattle.chyp_term.proofs.Positions.{some-same}
 use Rattle.chyp_graph.specs.PlainGraph.{Edge, PlainGraph, renamed}
 use Rattle.chyp_match.specs.View.{IsIn, Net}

@@ -1,17 +1,22 @@
 // Graphs that are rewritten in place.
-ghost use Rattle.std.specs.Prelude.{◌≡◌, ◌<◌, ◌↔◌, All, Contains, IfOk, IfSome, IsNone, Some, []};
+ghost use Rattle.std.specs.Prelude.{◌≡◌, ◌+◌, ◌<◌, ◌^◌, ◌↔◌, All, Contains, IfOk, IfSome, IsNone, OnErr, OnOk, Some, [], length};
 ghost use Rattle.chyp_graph.specs.Graph.{lent_edge};
 ghost use Rattle.chyp_match.specs.View.{IsIn, IsSeen, named_in, net_of, sorted_in, source_in, target_in};
+ghost use Rattle.chyp_pattern.specs.Occurrence.{IsOccurrence};
+ghost use Rattle.chyp_pattern.specs.Replacement.{IsGraphRule, replaced};
 ghost use Rattle.chyp_store.specs.Items.{item_at};
 ghost use Rattle.chyp_work.specs.Net.{IsSound, plain, seen_of};
+ghost use Rattle.chyp_work.specs.Step.{edge_places, wire_places};
 
 use crate::board::Board;
 use crate::end::End;
 use crate::filling::board_of;
 use crate::plain::graph_of;
+use crate::step::{Site, step_in};
 use chyp_base::{Name, NoMemory, Sort};
 use chyp_graph::{EdgeId, EdgeView, Graph, WireId};
 use chyp_match::View;
+use chyp_pattern::{Occurrence, Pattern};
 use std::alloc::Global;
 use std::marker::Model;
 
@@ -67,6 +72,37 @@ impl Work {
         ensures { IfOk result (λ graph. graph ≡ plain self.now) }
     {
         graph_of(&self.board)
+    }
+
+    /// Replaces the occurrence of the left side by the right side: the pushout step of rewriting graphs
+    /// (Bonchi, Gadducci, Kissinger, Sobociński and Zanasi, String Diagram Rewrite Theory II). The
+    /// occurrence names edges and wires by the numbers that they have here, and what stays keeps its
+    /// number. All memory is taken first.
+    ///
+    /// It takes time in proportion to the two sides, to the lists of edges under the names that go, and
+    /// to those of wires under the sorts that go; the rest of the graph isn't walked. The memory is that
+    /// of the right side and of the inputs and outputs of the left side.
+    ///
+    /// # Errors
+    ///
+    /// `NoMemory` where the right side can't be kept; the graph and its numbers are then as before.
+    pub fn step(&mut self, left: &Pattern, right: &Graph, at: &Occurrence) -> Result<(), NoMemory>
+        requires rule { IsGraphRule left.now.graph right.now }
+        requires edges { All (λ k. IsIn k self.old.edges) at.now.edges }
+        requires wires { All (λ w. IsIn w self.old.wires) at.now.wires }
+        requires occurrence { IsOccurrence left.now.graph (plain self.old) (edge_places self.old at.now.edges) (wire_places self.old at.now.wires) }
+        requires few_wires { length self.old.wires + length right.now.wires < 2 ^ 31 }
+        requires few_edges { length self.old.edges + length right.now.edges < 2 ^ 31 }
+        ensures step { OnOk result (plain self.new ≡ replaced (plain self.old) left.now.graph right.now (edge_places self.old at.now.edges)
+            (wire_places self.old at.now.wires)) }
+        ensures kept { OnErr result (self.new ≡ self.old) }
+    {
+        let site = Site {
+            left: left.graph(),
+            right,
+            at,
+        };
+        step_in(&mut self.board, &site)
     }
 
     /// Every such graph is valid.

@@ -1,6 +1,6 @@
 use Rattle.std.proofs.Common.{◌∙◌, sym, ap, length, slice_index}
 use Rattle.chyp_graph.proofs.Numbering.{inputs-within, outputs-within}
-use Rattle.chyp_work.proofs.Joining.{IsPut, joined-board, may-make, may-use}
+use Rattle.chyp_work.proofs.Joining.{joined-board, may-make, may-use}
 use Rattle.chyp_work.proofs.Opening.{all-renamed}
 use Rattle.chyp_work.proofs.step.join_in.Goals as goal
 
