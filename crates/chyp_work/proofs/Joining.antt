@@ -10,11 +10,11 @@ use Rattle.chyp_term.proofs.Closure.{index-get}
 use Rattle.chyp_term.proofs.Members.{Member, flat-member, map-member, member-get, member-left, member-map, member-not_apart, member-right, member-split, not_member-apart, parts-apart}
 use Rattle.chyp_term.proofs.Positions.{slice_get-length}
 use Rattle.chyp_term.proofs.Rearrangement.{flat-append}
-use Rattle.chyp_graph.specs.PlainGraph.{Edge, PlainGraph, renamed, sources_of, targets_of}
+use Rattle.chyp_graph.specs.PlainGraph.{Edge, PlainGraph, renamed}
 use Rattle.chyp_match.specs.View.{IsIn, Net}
 use Rattle.chyp_store.specs.Items.{AreDistinct, ids, item_at}
 use Rattle.chyp_work.specs.Board.{IsFiled, IsWork, edge_of, net}
-use Rattle.chyp_work.specs.Filling.{KnowsMaker, KnowsUser, with_graph}
+use Rattle.chyp_work.specs.Filling.{IsPut, KnowsMaker, KnowsUser, with_graph}
 use Rattle.chyp_work.specs.Net.{IsSound}
 use Rattle.chyp_work.specs.Rerouting.{MayReroute, made_by, made_in, moved_by, used_by, used_in}
 use Rattle.chyp_work.specs.Step.{IsJoined, MayStep}
@@ -148,19 +148,6 @@ module _ (n : Net) (r : PlainGraph) (ds vs : List ℕ) (edge_count : length ds �
             subst Is (index-get vs v.0 w v.1) (at v.0 h (member-split inner (flat_map port r.edges) v.0 (permutation-has (length r.wires) (inner ++ flat_map port r.edges) all v.0 b)))
 
 -- ## boards
-
--- b is a with the wires and the edges of r, under these numbers
-pub record IsPut (a b : Board) (r : PlainGraph) (ds vs : List ℕ) : Type 0 where
-  pub graph : net b ≡ with_graph (net a) r ds vs
-  pub wire_count : length vs ≡ length r.wires
-  pub edge_count : length ds ≡ length r.edges
-  pub wires_apart : AreDistinct (ids b.wires.items)
-  pub edges_apart : AreDistinct (ids b.edges.items)
-  pub old_makers : (w : ℕ) → IsIn w a.wires.items → KnowsMaker a w → KnowsMaker b w
-  pub old_users : (w : ℕ) → IsIn w a.wires.items → KnowsUser a w → KnowsUser b w
-  pub makers : (v : ℕ) → Member v (targets_of r.edges) → KnowsMaker b (slice_index vs v)
-  pub users : (v : ℕ) → Member v (sources_of r.edges) → KnowsUser b (slice_index vs v)
-  pub filed : IsFiled b
 
 -- c is b, where what made the images makes the ends
 pub record MakesEnds (b c : Board) (images ends : List ℕ) : Type 0 where

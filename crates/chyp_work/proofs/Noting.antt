@@ -5,13 +5,17 @@ use Rattle.std.specs.Option.{option_map_or}
 use Rattle.std.proofs.lemmas.Bool.{cases_eq}
 use Rattle.chyp_term.proofs.Members.{Member, member-not_apart, member-split}
 use Rattle.chyp_term.proofs.Slices.{get-take, take-suc}
+use Rattle.std.specs.Str.{bytes_eq}
+use Rattle.chyp_base.specs.declared.sort.Sort.{Sort}
 use Rattle.chyp_store.specs.Items.{item_at, with_item}
+use Rattle.chyp_store.specs.Lists.{list_of}
+use Rattle.chyp_match.specs.Listed.{ids_where}
 use Rattle.chyp_graph.specs.PlainGraph.{Edge}
-use Rattle.chyp_match.specs.View.{Net}
+use Rattle.chyp_match.specs.View.{Net, named_in}
 use Rattle.std.specs.Prelude.{Vec}
 use Rattle.std.specs.Global.{Global}
 use Rattle.chyp_store.specs.Store.{Store}
-use Rattle.chyp_work.specs.Board.{IsConsumer, IsProducer, edge_of, net, wires_of}
+use Rattle.chyp_work.specs.Board.{IsConsumer, IsFiled, IsProducer, edge_of, net, wires_of}
 use Rattle.chyp_work.specs.Filling.{AreNoted, IsMade, IsNoted, IsUsed, KeepsEnds, KnowsMaker, KnowsUser, end_of}
 use Rattle.chyp_work.specs.declared.board.Board.{Board}
 use Rattle.chyp_work.specs.declared.board.EdgeItem.{EdgeItem}
@@ -190,6 +194,13 @@ keeps-both a b c p q = record {
   sorts = q.sorts ∙ p.sorts;
   makers = λ w k. q.makers w (p.makers w k);
   users = λ w k. q.users w (p.users w k);
+}
+
+-- notes of ends change no list by name or by sort
+pub filed-noted : (b c : Board) → KeepsEnds b c → IsFiled b → IsFiled c
+filed-noted b c k f = record {
+  named = λ name. ap (λ (x : Board). list_of name x.named) k.rest ∙ f.named name ∙ ap (λ (x : Board). named_in (net x) name) (sym k.rest);
+  sorted = λ name. ap (λ (x : Board). list_of name x.sorted) k.rest ∙ f.sorted name ∙ ap (λ items. ids_where (λ (sort : Sort). bytes_eq name sort.name) items) (sym k.sorts);
 }
 
 -- what holds for each of the first, and for the next one, holds for each of them

@@ -1,5 +1,5 @@
 -- Boards that have taken a whole graph.
-use Rattle.std.proofs.Common.{ℕ, ◌<◌, ◌≡◌, ◌≢◌, List, [], ◌∷◌, ◌++◌, drop, length, map, take, Some, All, slice_index, ◌⊎◌, inl, inr, refl, sym, ◌∙◌, ap, subst, arith, eq-eqb, ne_eqb}
+use Rattle.std.proofs.Common.{ℕ, ◌<◌, ◌≡◌, ◌≢◌, List, [], ◌∷◌, ◌++◌, length, map, Some, All, slice_index, ◌⊎◌, inl, inr, refl, sym, ◌∙◌, ap, subst, arith, eq-eqb, ne_eqb}
 use Rattle.std.specs.List.{zip}
 use Rattle.std.specs.Option.{unwrap_or}
 use Rattle.std.proofs.lemmas.Bool.{cases_eq}
@@ -7,7 +7,6 @@ use Rattle.chyp_term.proofs.Closure.{index-get}
 use Rattle.chyp_term.proofs.Members.{All-from_get_members, All-members, Member, Rearr-member, below-member, map-member, member-get, member-map, member-split}
 use Rattle.chyp_term.proofs.Rearrangement.{permutation-Rearr}
 use Rattle.chyp_term.proofs.Positions.{map-map, slice_get-length}
-use Rattle.chyp_term.proofs.Slices.{written-back}
 use Rattle.chyp_graph.specs.PlainGraph.{Edge, PlainGraph, renamed, sources_of, targets_of}
 use Rattle.chyp_graph.specs.Validity.{IsValid}
 use Rattle.chyp_graph.proofs.Numbering.{edges-within, input-below, output-below}
@@ -170,12 +169,6 @@ module _ (g : PlainGraph) (b : Board) (ds vs : List ℕ) (valid : IsValid g) (ed
 
       used : (v : ℕ) → v < length g.wires → (Member v g.outputs) ⊎ (Member v (sources_of g.edges))
       used v h = member-split g.outputs (sources_of g.edges) v (Rearr-member v (permutation-Rearr (length g.wires) _ valid.consumers) (below-member (length g.wires) v h))
-
--- the list is renamed and written back
-pub all-renamed : (f : ℕ → ℕ) (n : ℕ) (old was new xs : List ℕ) → n ≡ length old → was ≡ old → old ≡ xs → new ≡ map f was → take n (new ++ drop (length new) old) ≡ map f xs
-all-renamed f n old was new xs h q e p =
-    let r : new ≡ map f old = p ∙ ap (map f) q in
-    written-back new old n h (ap length r ∙ length-mapped f old) ∙ r ∙ ap (map f) e
 
 -- c is b with these inputs
 pub record GetsInputs (b c : Board) (is : List ℕ) : Type 0 where

@@ -1,12 +1,13 @@
 -- What a board takes of a graph, and what it knows of the ends of its wires.
 use Rattle.std.specs.Prelude.{ℕ, ◌≡◌, ◌⊎◌, ◌<◌, ◌≤◌, ◌^◌, true, List, [], ◌++◌, length, map, Option, Some, None, slice_get, slice_index, vec_capacity}
 use Rattle.std.specs.List.{zip}
+use Rattle.chyp_term.proofs.Members.{Member}
 use Rattle.chyp_term.specs.Positions.{is_apart}
-use Rattle.chyp_graph.specs.PlainGraph.{PlainGraph, renamed}
-use Rattle.chyp_store.specs.Items.{item_at}
+use Rattle.chyp_graph.specs.PlainGraph.{PlainGraph, renamed, sources_of, targets_of}
+use Rattle.chyp_store.specs.Items.{AreDistinct, ids, item_at}
 use Rattle.chyp_store.specs.Lists.{HasRows}
-use Rattle.chyp_match.specs.View.{Net}
-use Rattle.chyp_work.specs.Board.{IsConsumer, IsProducer, IsWork, edge_of, net, wires_of}
+use Rattle.chyp_match.specs.View.{IsIn, Net}
+use Rattle.chyp_work.specs.Board.{IsConsumer, IsFiled, IsProducer, IsWork, edge_of, net, wires_of}
 use Rattle.chyp_work.specs.Net.{plain}
 use Rattle.chyp_work.specs.declared.board.Board.{Board}
 use Rattle.chyp_work.specs.declared.board.EdgeItem.{EdgeItem}
@@ -82,3 +83,17 @@ pub record KeepsEnds (b c : Board) : Type 0 where
 pub record IsBoardOf (g : PlainGraph) (b : Board) : Type 0 where
   pub work : IsWork b
   pub graph : plain (net b) ≡ g
+
+-- b is a with the wires and the edges of the graph, under these numbers, and with the ends at the ports of these edges
+pub record IsPut (a b : Board) (g : PlainGraph) (ds vs : List ℕ) : Type 0 where
+  pub graph : net b ≡ with_graph (net a) g ds vs
+  pub wire_count : length vs ≡ length g.wires
+  pub edge_count : length ds ≡ length g.edges
+  pub ends : (b.inputs ≡ a.inputs) × (b.outputs ≡ a.outputs)
+  pub wires_apart : AreDistinct (ids b.wires.items)
+  pub edges_apart : AreDistinct (ids b.edges.items)
+  pub old_makers : (w : ℕ) → IsIn w a.wires.items → KnowsMaker a w → KnowsMaker b w
+  pub old_users : (w : ℕ) → IsIn w a.wires.items → KnowsUser a w → KnowsUser b w
+  pub makers : (v : ℕ) → Member v (targets_of g.edges) → KnowsMaker b (slice_index vs v)
+  pub users : (v : ℕ) → Member v (sources_of g.edges) → KnowsUser b (slice_index vs v)
+  pub filed : IsFiled b

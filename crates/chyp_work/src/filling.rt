@@ -1,11 +1,7 @@
 // Boards that take the wires and the edges of a graph.
-ghost use Rattle.std.specs.Prelude.{◌≡◌, ℕ, IfOk, List, [], length, slice_index};
-ghost use Rattle.chyp_term.proofs.Members.{Member};
-ghost use Rattle.chyp_graph.specs.PlainGraph.{sources_of, targets_of};
-ghost use Rattle.chyp_match.specs.View.{IsIn};
-ghost use Rattle.chyp_store.specs.Items.{AreDistinct, ids};
+ghost use Rattle.std.specs.Prelude.{◌≡◌, ◌<◌, All, IfOk, [], length, map, slice_index};
 ghost use Rattle.chyp_work.specs.Board.{IsFiled, net};
-ghost use Rattle.chyp_work.specs.Filling.{AreParts, HasRoomFor, IsBoardOf, KnowsMaker, KnowsUser, with_graph};
+ghost use Rattle.chyp_work.specs.Filling.{AreParts, HasRoomFor, IsBoardOf, IsPut};
 
 use crate::board::{Board, add_edges, add_wires, rename};
 use crate::ends::{note_edges, set_inputs, set_outputs};
@@ -34,17 +30,7 @@ pub(crate) fn put(board: &mut Board, graph: &Graph, parts: Parts) -> Numbers
     requires filed { IsFiled board.old }
     requires parts { AreParts graph.now parts }
     requires room { HasRoomFor graph.now board.old }
-    ensures graph { net board.new ≡ with_graph (net board.old) graph.now result.edges.items result.wires.items }
-    ensures wire_count { length result.wires.items ≡ length graph.now.wires }
-    ensures edge_count { length result.edges.items ≡ length graph.now.edges }
-    ensures ends { (board.new.inputs ≡ board.old.inputs) × (board.new.outputs ≡ board.old.outputs) }
-    ensures wires_apart { AreDistinct (ids board.new.wires.items) }
-    ensures edges_apart { AreDistinct (ids board.new.edges.items) }
-    ensures old_makers { (w : ℕ) → IsIn w board.old.wires.items → KnowsMaker board.old w → KnowsMaker board.new w }
-    ensures old_users { (w : ℕ) → IsIn w board.old.wires.items → KnowsUser board.old w → KnowsUser board.new w }
-    ensures makers { (v : ℕ) → Member v (targets_of graph.now.edges) → KnowsMaker board.new (slice_index result.wires.items v) }
-    ensures users { (v : ℕ) → Member v (sources_of graph.now.edges) → KnowsUser board.new (slice_index result.wires.items v) }
-    ensures filed { IsFiled board.new }
+    ensures { IsPut board.old board.new graph.now result.edges.items result.wires.items }
 {
     graph.valid();
     let Parts {
@@ -108,13 +94,21 @@ fn fill(board: &mut Board, graph: &Graph, parts: Parts, ends: Ends)
     ensures { IsBoardOf graph.now board.new }
 {
     graph.valid();
-    let Ends {
-        mut inputs,
-        mut outputs,
-    } = ends;
     let numbers = put(board, graph, parts);
-    rename(&mut inputs, &numbers.wires);
-    rename(&mut outputs, &numbers.wires);
+    let Ends { inputs, outputs } = renamed_ends(ends, &numbers.wires);
     set_inputs(board, inputs);
     set_outputs(board, outputs);
+}
+
+/// The ends, with the wire at each place in place of the place.
+pub(crate) fn renamed_ends(ends: Ends, wires: &[WireId]) -> Ends
+    requires inputs { All (λ w. w < length wires.now) ends.inputs.items }
+    requires outputs { All (λ w. w < length wires.now) ends.outputs.items }
+    ensures inputs { result.inputs.items ≡ map (slice_index wires.now) ends.inputs.items }
+    ensures outputs { result.outputs.items ≡ map (slice_index wires.now) ends.outputs.items }
+{
+    let mut ends = ends;
+    rename(&mut ends.inputs, wires);
+    rename(&mut ends.outputs, wires);
+    ends
 }

@@ -4,8 +4,8 @@ ghost use Rattle.chyp_work.specs.Board.{IsWork, net};
 ghost use Rattle.chyp_work.specs.Filling.{HasRoomFor};
 ghost use Rattle.chyp_work.specs.Step.{AreTaken, IsJoinedAt, IsStepAt, MayStepAt};
 
-use crate::board::{Board, remove_edges, remove_wires, rename};
-use crate::filling::{Ends, ends_of, put};
+use crate::board::{Board, remove_edges, remove_wires};
+use crate::filling::{Ends, ends_of, put, renamed_ends};
 use crate::parts::Parts;
 use crate::plain::wires_at;
 use crate::rewiring::{reroute_consumers, reroute_producers};
@@ -76,15 +76,10 @@ fn join_in(board: &mut Board, site: &Site<'_>, taken: Taken)
         images,
         ends,
     } = taken;
-    let Ends {
-        mut inputs,
-        mut outputs,
-    } = ends;
     let numbers = put(board, site.right, parts);
-    rename(&mut inputs, &numbers.wires);
-    rename(&mut outputs, &numbers.wires);
-    reroute_producers(board, &images.inputs, &inputs);
-    reroute_consumers(board, &images.outputs, &outputs);
+    let ends = renamed_ends(ends, &numbers.wires);
+    reroute_producers(board, &images.inputs, &ends.inputs);
+    reroute_consumers(board, &images.outputs, &ends.outputs);
 }
 
 /// Puts the right side in the place of the image of the left side. It takes no memory.
