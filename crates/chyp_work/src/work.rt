@@ -79,9 +79,9 @@ impl Work {
     /// occurrence names edges and wires by the numbers that they have here, and what stays keeps its
     /// number. All memory is taken first.
     ///
-    /// It takes time in proportion to the two sides, to the lists of edges under the names that go, and
-    /// to those of wires under the sorts that go; the rest of the graph isn't walked. The memory is that
-    /// of the right side and of the inputs and outputs of the left side.
+    /// It takes time in proportion to the two sides and, for each edge and each wire that goes, to the
+    /// list of those of its name or sort; the rest of the graph isn't walked. The memory is that of the
+    /// right side and of the inputs and outputs of the left side.
     ///
     /// # Errors
     ///
