@@ -54,6 +54,3 @@ pub use std_source::StdSource;
 pub use steps::Steps;
 pub use text::Text;
 pub use verdict::Verdict;
-
-#[cfg(test)]
-mod tests;

@@ -1,4 +1,4 @@
-use Rattle.chyp_base.proofs.tests.steps_are_counted.Given as goal
+use Rattle.chyp_base_tests.proofs.values.steps_are_counted.Given as goal
 
 abbrev pub ghosts-tick_twice : goal.ghosts-tick_twice
 ghosts-tick_twice a = record { name = a.blank.name; parts = a.blank.parts }
