@@ -8,6 +8,7 @@ pub mod Leaving
 pub mod Moving
 pub mod Nets
 pub mod Noting
+pub mod Numbers
 pub mod Occurring
 pub mod Opening
 pub mod Places

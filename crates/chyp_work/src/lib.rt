@@ -13,6 +13,7 @@ mod end;
 mod ends;
 mod filling;
 mod laws;
+mod numbering;
 mod parts;
 mod plain;
 mod rewiring;

@@ -11,6 +11,7 @@ ghost use Rattle.chyp_work.specs.Step.{edge_places, wire_places};
 use crate::board::Board;
 use crate::end::End;
 use crate::filling::board_of;
+use crate::numbering::numbered_in;
 use crate::plain::graph_of;
 use crate::step::{Site, step_in};
 use chyp_base::{Name, NoMemory, Sort};
@@ -72,6 +73,24 @@ impl Work {
         ensures { IfOk result (λ graph. graph ≡ plain self.now) }
     {
         graph_of(&self.board)
+    }
+
+    /// The same occurrence by the numbers that its edges and wires have here, of one that names them by
+    /// their places in the plain graph. It takes time and memory in proportion to the graph and to the
+    /// occurrence.
+    ///
+    /// # Errors
+    ///
+    /// `NoMemory` where the occurrence can't be kept.
+    pub fn numbered(&self, at: &Occurrence) -> Result<Occurrence, NoMemory>
+        requires edges { All (λ k. k < length self.now.edges) at.now.edges }
+        requires wires { All (λ w. w < length self.now.wires) at.now.wires }
+        ensures edges_there { IfOk result (λ o. All (λ k. IsIn k self.now.edges) o.edges) }
+        ensures wires_there { IfOk result (λ o. All (λ w. IsIn w self.now.wires) o.wires) }
+        ensures edges { IfOk result (λ o. edge_places self.now o.edges ≡ at.now.edges) }
+        ensures wires { IfOk result (λ o. wire_places self.now o.wires ≡ at.now.wires) }
+    {
+        numbered_in(&self.board, at)
     }
 
     /// Replaces the occurrence of the left side by the right side: the pushout step of rewriting graphs
