@@ -1,5 +1,5 @@
 -- Answers of a check.
-use Rattle.std.proofs.Common.{◌≡◌, ℕ, ◌+◌, ◌<◌, ◌≤◌, List, [], All, length, Option, Some, None, IfSome, Result, Ok, Err, OnErr, inr, refl, sym, ◌∙◌, ap, subst, arith, append-nil, length-append}
+use Rattle.std.proofs.Common.{◌≡◌, ℕ, ◌+◌, ◌<◌, ◌≤◌, List, [], All, length, Option, Some, None, IfSome, inr, refl, sym, ◌∙◌, ap, subst, arith, append-nil, length-append}
 use Rattle.std.specs.Io.KnownBytes.{Consumes}
 use Rattle.std.proofs.lemmas.List.{length-map}
 use Rattle.std.proofs.lemmas.List.Elements.{All-weaker}
@@ -16,13 +16,10 @@ use Rattle.chyp_modules.specs.Library.{AreStatements, Library, Module, library_o
 use Rattle.chyp_modules.specs.Modules.{AreVerdicts}
 use Rattle.chyp_modules.proofs.Agreeing.{AgreeFrom, agree-back, agree-main, checks-agree, listed-agrees, verdicts-agree}
 use Rattle.chyp_load.specs.Loading.{IsRead, ListsAll}
-use Rattle.chyp_app.specs.Output.{CountsStatements, IsCheck, IsReport, Output, checked, nothing_but}
+use Rattle.chyp_app.specs.Output.{CountsStatements, IsCheck, Output, checked, nothing_but}
+use Rattle.chyp_app.specs.Reported.{IsReport}
 use Rattle.chyp_app.specs.Headline.{BeginsToCheck, Begins, EndsSo, EndsWell, Gives, IsReached}
 use Rattle.chyp_app.proofs.OutputLemmas.{settled}
-
-pub on_err : {T E : Type 0} (result : Result T E) (P : Type 0) → P → OnErr result P
-on_err (Ok x) P p = tt
-on_err (Err e) P p = p
 
 -- ---- what is told
 

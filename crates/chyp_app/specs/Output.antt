@@ -46,17 +46,6 @@ pub data IsCheck (texts : Texts) (text : List ℕ) : Output → Type 0 where
   checked : {tokens : List Token} {chunks : List Chunk} {verdicts : List Verdict} {checks : ℕ} → AreTokens text tokens
       → AreChunks tokens chunks → Results texts text (checked' verdicts checks) → IsCheck texts text (output_of text tokens chunks verdicts checks)
 
--- the report and the status are those of the verdicts that the statements of the text get
-pub record IsReport (texts : Texts) (text report : List ℕ) (status : Status) : Type 0 where
-  pub tokens : List Token
-  pub chunks : List Chunk
-  pub verdicts : List Verdict
-  pub are_tokens : AreTokens text tokens
-  pub are_chunks : AreChunks tokens chunks
-  pub are_verdicts : AreVerdicts (with_main texts text) [] verdicts
-  pub says : report ≡ report_of text tokens chunks verdicts
-  pub ends : status ≡ status_of verdicts
-
 -- What a run is to give for its words, the bytes of its source and the texts of its library: what the command that the
 -- words name gives, and nothing where they name none.
 pub data IsOutput (words : List (List ℕ)) (bytes : List ℕ) (texts : Texts) : Output → Type 0 where

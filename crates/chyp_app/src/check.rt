@@ -5,7 +5,8 @@ ghost use Rattle.chyp_modules.specs.Checking.{HasChecks};
 ghost use Rattle.chyp_modules.specs.Library.{library_of, with_main};
 ghost use Rattle.chyp_load.specs.Imports.{ImportsSome};
 ghost use Rattle.chyp_load.specs.Loading.{AreShort, LoadHasCause};
-ghost use Rattle.chyp_app.specs.Output.{status_of, CountsStatements, EachOutputIsExplained, EachRunHasOneOutput, EachTextIsChecked, IsCheck, IsReport, nothing_but};
+ghost use Rattle.chyp_app.specs.Output.{status_of, CountsStatements, EachOutputIsExplained, EachRunHasOneOutput, EachTextIsChecked, IsCheck, nothing_but};
+ghost use Rattle.chyp_app.specs.Reported.{IsReport};
 ghost use Rattle.chyp_app.specs.Headline.{BeginsToCheck, Gives, IsEnded, IsReached};
 
 use crate::report::{good_count, report};

@@ -21,7 +21,7 @@ use Rattle.chyp_verdicts.proofs.Texts.{HaveVerdicts, no-verdicts, push-verdict}
 use Rattle.chyp_modules.specs.Import.{Imports, LeadsTo, Reaches, at_once}
 use Rattle.chyp_modules.specs.Library.{Library, AreStatements, IsModule}
 use Rattle.chyp_modules.specs.Laws.{OriginsDetermineSenses}
-use Rattle.chyp_modules.specs.Modules.{Makes, at_start, one_more, Stands, stands, Finds, no_import, of_none, of_circle, of_module, HasEnvironment, AreVerdicts, standing}
+use Rattle.chyp_modules.specs.Modules.{Makes, at_start, one_more, Stands, stands, Finds, no_import, of_none, of_cycle, of_module, HasEnvironment, AreVerdicts, standing}
 use Rattle.chyp_load.specs.Statements.{CutText, IsCut}
 use Rattle.chyp_reach.specs.Relation.{relates}
 use Rattle.chyp_check.specs.Progress.{AreMade, Environments, IsNext}
@@ -30,12 +30,12 @@ use Rattle.chyp_check.proofs.Reached.{library-at}
 
 -- ---- what is imported
 
-pub finds-circle : (project : Project) (words : List Word) (name : List ℕ) (place : ℕ) → IsMapped project → place < length project.nodes → name_at project.nodes place ≡ name
+pub finds-cycle : (project : Project) (words : List Word) (name : List ℕ) (place : ℕ) → IsMapped project → place < length project.nodes → name_at project.nodes place ≡ name
     → relates project.rows place place ≡ true → Imports words name → Finds (library_in project.nodes) words on_cycle
-finds-circle project words name place mapped h named e i =
+finds-cycle project words name place mapped h named e i =
     let nodes = project.nodes in
     let V = library_in nodes in
-    of_circle i (subst (λ n. V n ≡ Some (text_at nodes place)) named (library-at nodes mapped.distinct place h))
+    of_cycle i (subst (λ n. V n ≡ Some (text_at nodes place)) named (library-at nodes mapped.distinct place h))
     (subst (λ n. Reaches V n n) named ((mapped.reflects place place h h).0 e))
 
 pub finds-module : (project : Project) (envs : Environments) (words : List Word) (name : List ℕ) (place : ℕ) (env : List Binding) → IsMapped project → AreMade project envs
@@ -83,7 +83,7 @@ pub finds-agree : OriginsDetermineSenses → (library : Library) (name : List �
     → Finds library words imported → AgreeOnOrigins env imported
 finds-agree senses library name i env words _ makes (no_import n) = tt
 finds-agree senses library name i env words _ makes (of_none n e) = tt
-finds-agree senses library name i env words _ makes (of_circle n e r) = tt
+finds-agree senses library name i env words _ makes (of_cycle n e r) = tt
 finds-agree senses library name i env words _ makes (of_module {name = other} {statements} {env = end} n is r made) =
     senses library name other i (length statements) env end makes made
 

@@ -1,5 +1,5 @@
 -- The modules that the main text reaches, checked one after the other.
-use Rattle.std.proofs.Common.{◌≡◌, ℕ, zero, suc, ◌+◌, ◌<◌, ◌≤◌, List, [], ◌∷◌, ◌++◌, length, take, drop, Option, None, Some, slice_get, slice_index_or, set, ◌⊎◌, inl, inr, refl, sym, ◌∙◌, ap, subst, arith}
+use Rattle.std.proofs.Common.{◌≡◌, ℕ, zero, suc, ◌+◌, ◌<◌, ◌≤◌, List, [], ◌∷◌, ◌++◌, length, take, drop, None, Some, slice_get, slice_index_or, set, ◌⊎◌, inl, inr, refl, sym, ◌∙◌, ap, subst, arith}
 use Rattle.std.specs.Prelude.{Contains, IsSome}
 use Rattle.std.proofs.lemmas.Bool.{cases_lt}
 use Rattle.std.proofs.lemmas.List.{map-append, take-append-drop, take_all}
@@ -8,7 +8,7 @@ use Rattle.std.proofs.lemmas.List.Elements.{Contains-append_left, Contains-push_
 use Rattle.chyp_env.specs.Environment.{Binding}
 use Rattle.chyp_names.proofs.Goals.{take_more}
 use Rattle.chyp_env.proofs.Bindings.{Contains-from_map, Contains-map}
-use Rattle.chyp_verdicts.proofs.OneVerdict.{some-once}
+use Rattle.chyp_verdicts.proofs.OneVerdict.{none-some, some-once}
 use Rattle.chyp_modules.specs.Checking.{AreAllWanted, AreDistinct, HaveStatements, IsWanted, of_none}
 use Rattle.chyp_modules.specs.Import.{Reaches}
 use Rattle.chyp_modules.specs.Library.{Library}
@@ -31,16 +31,6 @@ pub record IsGoing (project : Project) (order : List ℕ) (place : ℕ) (envs : 
 
 none-counted : (library : Library) (k : ℕ) → HaveStatements library [] k → k ≡ 0
 none-counted library k of_none = refl
-
-none-some : {A : Type 0} (o : Option A) (x : A) → o ≡ None → o ≡ Some x → ⊥
-none-some o x e f = let both = sym e ∙ f in absurd cc
-
--- one place more
-pub none-pushed : (xs : Environments) → ((i : ℕ) → slice_index_or xs i None ≡ None) → (i : ℕ) → slice_index_or (xs ++ None ∷ []) i None ≡ None
-none-pushed [] none zero = refl
-none-pushed [] none (suc i) = refl
-none-pushed (x ∷ xs) none zero = none 0
-none-pushed (x ∷ xs) none (suc i) = none-pushed xs (λ k. none (suc k)) i
 
 pub going-start : (project : Project) (order : List ℕ) (envs : Environments) (steps : ℕ) → length envs ≡ length project.nodes → ((i : ℕ) → slice_index_or envs i None ≡ None)
     → IsGoing project order 0 envs steps steps

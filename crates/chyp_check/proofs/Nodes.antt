@@ -1,7 +1,7 @@
 -- The texts of a project.
 use Rattle.std.proofs.Common.{◌≡◌, ℕ, ◌+◌, ◌<◌, ◌≤◌, Bool, true, false, cond, List, [], ◌∷◌, ◌++◌, length, map, take, Option, None, Some, slice_index_or, ◌⊎◌, inl, inr, refl, sym, ◌∙◌, ap, subst, arith, append-nil}
 use Rattle.std.specs.List.{filter_map}
-use Rattle.std.specs.Prelude.{Contains, find, IfNone, IfSome}
+use Rattle.std.specs.Prelude.{Contains, find, IfNone}
 use Rattle.std.specs.Option.{option_map, option_map_or}
 use Rattle.std.specs.Str.{bytes_eq}
 use Rattle.std.proofs.lemmas.List.Elements.{All-cons, All-head, All-nil, All-tail, filter_map-append}
@@ -12,6 +12,7 @@ use Rattle.chyp_modules.specs.Checking.{AreDistinct}
 use Rattle.chyp_modules.specs.Library.{Module, library_of, with_main}
 use Rattle.chyp_load.specs.Loading.{AreShort, names_of}
 use Rattle.chyp_check.specs.Project.{HaveDistinctNames, HaveShortTexts, Node, library_in, node_of}
+use Rattle.chyp_load.proofs.Reading.{IsShort}
 
 -- one item more, of which something is made
 pub made_more : {X Y : Type 0} (h : X → Option Y) (xs : List X) (i : ℕ) (x : X) (y : Y) → i < length xs → x ≡ slice_index_or xs i x → h x ≡ Some y
@@ -66,7 +67,7 @@ cons-not b bs e = absurd cc
 
 -- ---- the texts have distinct names, and are short
 
-abbrev names_in : List Node → List (List ℕ)
+abbrev pub names_in : List Node → List (List ℕ)
 names_in nodes = map (λ (n : Node). n.0) nodes
 
 among : (ms : List Module) (name : List ℕ) → Contains (names_in (filter_map node_of ms)) name → Contains (names_of ms) name × ¬ (name ≡ [])
@@ -92,16 +93,13 @@ nodes-distinct modules text d = ((λ c. (among modules [] c).1 refl), rest-disti
 abbrev IsShortNode : Node → Type 0
 IsShortNode node = length node.1 ≤ text_limit
 
-abbrev IsShortModule : Module → Type 0
-IsShortModule m = IfSome m.1 (λ text. length text ≤ text_limit)
-
 rest-short : (ms : List Module) → AreShort ms → HaveShortTexts (filter_map node_of ms)
 rest-short [] s = All-nil _
-rest-short (([], o) ∷ ms) s = rest-short ms (All-tail IsShortModule ([], o) ms s)
-rest-short ((b ∷ bs, None) ∷ ms) s = rest-short ms (All-tail IsShortModule (b ∷ bs, None) ms s)
+rest-short (([], o) ∷ ms) s = rest-short ms (All-tail IsShort ([], o) ms s)
+rest-short ((b ∷ bs, None) ∷ ms) s = rest-short ms (All-tail IsShort (b ∷ bs, None) ms s)
 rest-short ((b ∷ bs, Some t) ∷ ms) s =
-    All-cons IsShortNode (b ∷ bs, t) (filter_map node_of ms) (All-head IsShortModule (b ∷ bs, Some t) ms s)
-    (rest-short ms (All-tail IsShortModule (b ∷ bs, Some t) ms s))
+    All-cons IsShortNode (b ∷ bs, t) (filter_map node_of ms) (All-head IsShort (b ∷ bs, Some t) ms s)
+    (rest-short ms (All-tail IsShort (b ∷ bs, Some t) ms s))
 
 pub nodes-short : (modules : List Module) (text : List ℕ) → length text ≤ text_limit → AreShort modules → HaveShortTexts (([], text) ∷ filter_map node_of modules)
 nodes-short modules text h s = All-cons IsShortNode ([], text) (filter_map node_of modules) h (rest-short modules s)

@@ -1,13 +1,13 @@
 -- From what was elaborated to verdicts.
-use Rattle.std.proofs.Common.{◌≡◌, ℕ, ◌+◌, ◌≤◌, Bool, true, List, [], ◌∷◌, length, Some, None, sum_by, Result, Ok, Err, OnErr, refl, sym, ◌∙◌, ap, subst, arith, ◌⊎◌, inl, inr}
+use Rattle.std.proofs.Common.{◌≡◌, ◌+◌, ◌≤◌, Bool, true, List, [], ◌∷◌, length, Some, None, sum_by, Result, Ok, Err, OnErr, refl, sym, ◌∙◌, ap, subst, arith, ◌⊎◌, inl, inr}
 use Rattle.std.proofs.lemmas.List.Sums.{sum_by-cons}
 use Rattle.std.proofs.lemmas.Bool.{false≢true}
 use Rattle.std.proofs.lemmas.List.{length-map}
 use Rattle.chyp_base.specs.declared.verdict.Verdict.{Verdict}
-use Rattle.chyp_base.specs.declared.verdict.Verdict.TheVariants.{Accepted, Proved, Syntax}
+use Rattle.chyp_base.specs.declared.verdict.Verdict.TheVariants.{Accepted, Proved}
 use Rattle.chyp_lex.specs.declared.token.TokenKind.TheVariants.{WordRewrite}
 use Rattle.chyp_syntax.specs.Sentence.{IsSentence}
-use Rattle.chyp_syntax.specs.Statement.{StatementTree, generator as a_gen, definition, rule, rewrite, inclusion, showing}
+use Rattle.chyp_syntax.specs.Statement.{StatementTree, generator as a_gen, abbreviation, rule, rewrite, inclusion, showing}
 use Rattle.chyp_term.specs.Measure.{size_of}
 use Rattle.chyp_term.specs.Step.{Reason, reason_of, reasons_of}
 use Rattle.chyp_term.specs.Morphism.{Morphism, generator, permutation, then, beside}
@@ -15,11 +15,13 @@ use Rattle.chyp_env.specs.Site.{Site}
 use Rattle.chyp_names.specs.declared.body.Body.{Body}
 use Rattle.chyp_names.specs.Binding.{IsOutcome}
 use Rattle.chyp_names.specs.Elaboration.{IsBody, IsRefused, Passes, has_hole, steps_at, terms_of}
-use Rattle.chyp_verdicts.specs.Judged.{IsJudged, IsVerdictOf, accepted, by_steps, is_rewrite}
+use Rattle.chyp_verdicts.specs.Judged.{IsJudged, accepted, by_steps, is_rewrite}
+use Rattle.chyp_verdicts.specs.Bodies.{IsVerdictOf}
 use Rattle.chyp_verdicts.specs.Steps.{IsVerdictOnSteps}
 use Rattle.chyp_verdicts.proofs.Follows.{goals-few}
-use Rattle.chyp_verdicts.proofs.OneBinding.{keyword_of_tree, rewrite-begins, sentence-is_rewrite}
+use Rattle.chyp_verdicts.proofs.OneBinding.{rewrite-begins, sentence-is_rewrite}
 use Rattle.chyp_verdicts.proofs.SomeBinding.{IsBad, refused-bad, steps-bad}
+use Rattle.chyp_names.proofs.Made.{keyword_for}
 
 -- what holds anyway, holds where there is an error
 pub on_err : {T E : Type 0} (result : Result T E) (P : Type 0) → P → OnErr result P
@@ -49,7 +51,7 @@ judged_sentence s tree body v t p b = go tree t p b.terms b.steps b.hole
     go : (tree : StatementTree) → IsSentence s.scope.words tree → Passes s tree → body.terms ≡ terms_of s tree → reasons_of body.steps ≡ steps_at s.scope tree → body.hole ≡ has_hole tree
         → IsVerdictOf body.terms (reasons_of body.steps) body.hole tree v → IsJudged s v
     go (a_gen name dom cod) t p e f g h = subst (IsJudged s) (sym h) (accepted t p refl)
-    go (definition name tree) t p e f g h = subst (IsJudged s) (sym h) (accepted t p refl)
+    go (abbreviation name tree) t p e f g h = subst (IsJudged s) (sym h) (accepted t p refl)
     go (rule name left equals right) t p e f g h = subst (IsJudged s) (sym h) (accepted t p refl)
     go (inclusion imported prefix) t p e f g h = subst (IsJudged s) (sym h) (accepted t p refl)
     go (showing name) t p e f g h = subst (IsJudged s) (sym h) (accepted t p refl)
@@ -61,9 +63,9 @@ judged_sentence s tree body v t p b = go tree t p b.terms b.steps b.hole
 
 -- the verdict of an accepted statement is not that of a rewrite, and a proved statement is one
 pub good_keyword : (terms : List Morphism) (reasons : List Reason) (hole : Bool) (tree : StatementTree) (v : Verdict) → IsVerdictOf terms reasons hole tree v
-    → (v ≡ Accepted → keyword_of_tree tree ≡ WordRewrite → ⊥) × (v ≡ Proved → keyword_of_tree tree ≡ WordRewrite)
+    → (v ≡ Accepted → keyword_for tree ≡ WordRewrite → ⊥) × (v ≡ Proved → keyword_for tree ≡ WordRewrite)
 good_keyword terms reasons hole (a_gen name dom cod) v h = (λ e k. absurd cc, λ e. let both : Accepted ≡ Proved = sym h ∙ e in absurd cc)
-good_keyword terms reasons hole (definition name tree) v h = (λ e k. absurd cc, λ e. let both : Accepted ≡ Proved = sym h ∙ e in absurd cc)
+good_keyword terms reasons hole (abbreviation name tree) v h = (λ e k. absurd cc, λ e. let both : Accepted ≡ Proved = sym h ∙ e in absurd cc)
 good_keyword terms reasons hole (rule name left equals right) v h = (λ e k. absurd cc, λ e. let both : Accepted ≡ Proved = sym h ∙ e in absurd cc)
 good_keyword terms reasons hole (inclusion imported prefix) v h = (λ e k. absurd cc, λ e. let both : Accepted ≡ Proved = sym h ∙ e in absurd cc)
 good_keyword terms reasons hole (showing name) v h = (λ e k. absurd cc, λ e. let both : Accepted ≡ Proved = sym h ∙ e in absurd cc)
@@ -96,9 +98,6 @@ bad_outcome s v bad = record {
 pub refused_outcome : (s : Site) (tree : StatementTree) (v : Verdict) → IsRefused s tree v → IsOutcome s None v
 refused_outcome s tree v r = bad_outcome s v (refused-bad s tree v r)
 
-pub syntax_outcome : (s : Site) (k : ℕ) → IsOutcome s None (Syntax k)
-syntax_outcome s k = bad_outcome s (Syntax k) (λ p. absurd cc, λ p. absurd cc)
-
 -- a rewrite has at most one term more than steps
 pub rewrite_steps : (s : Site) (tree : StatementTree) (body : Body) → IsBody s tree body → is_rewrite tree ≡ true → length body.terms ≤ length body.steps + 1
 rewrite_steps s tree body b r =
@@ -110,7 +109,7 @@ rewrite_steps s tree body b r =
   where
     go : (tree : StatementTree) → is_rewrite tree ≡ true → length (terms_of s tree) ≤ length (steps_at s.scope tree) + 1
     go (a_gen name dom cod) h = absurd (false≢true h)
-    go (definition name tree) h = absurd (false≢true h)
+    go (abbreviation name tree) h = absurd (false≢true h)
     go (rule name left equals right) h = absurd (false≢true h)
     go (inclusion imported prefix) h = absurd (false≢true h)
     go (showing name) h = absurd (false≢true h)

@@ -1,9 +1,9 @@
 -- Which nodes reach which.
-use Rattle.std.proofs.Common.{◌≡◌, ℕ, zero, suc, ◌+◌, ◌<◌, ◌≤◌, Bool, true, false, cond, ◌||◌, ◌&&◌, ◌==◌, ◌≢◌, List, [], ◌∷◌, length, map, Option, None, Some, slice_index_or, ◌⊎◌, inl, inr, ◌↔◌, refl, sym, ◌∙◌, ap, subst, arith}
+use Rattle.std.proofs.Common.{◌≡◌, ℕ, zero, suc, ◌+◌, ◌<◌, ◌≤◌, Bool, true, false, cond, ◌||◌, ◌&&◌, ◌==◌, ◌≢◌, List, [], ◌∷◌, length, Option, None, Some, slice_index_or, ◌⊎◌, inl, inr, ◌↔◌, refl, sym, ◌∙◌, ap, subst, arith}
 use Rattle.std.specs.Prelude.{Contains, find}
 use Rattle.std.specs.Option.{option_map}
 use Rattle.std.specs.Str.{bytes_eq}
-use Rattle.std.proofs.lemmas.Bool.{cases_lt, eq-eqb, eqb-true, false≢true, ne_eqb}
+use Rattle.std.proofs.lemmas.Bool.{eq-eqb, eqb-true, false≢true, ne_eqb}
 use Rattle.chyp_env.proofs.Bindings.{Contains-cons, names-eq, names-same}
 use Rattle.chyp_verdicts.proofs.OneVerdict.{some-once}
 use Rattle.chyp_modules.specs.Import.{LeadsTo, Reaches, at_once, by_way_of}
@@ -11,11 +11,10 @@ use Rattle.chyp_modules.specs.Library.{AreStatements}
 use Rattle.chyp_modules.proofs.Reaching.{begins}
 use Rattle.chyp_load.specs.Imports.{AreImports, IsImportedBy}
 use Rattle.chyp_reach.specs.Relation.{IsSquare, Leads, at_once as leads_at_once, by_way_of as leads_by_way_of, relates}
-use Rattle.chyp_reach.proofs.Chains.{relates-within}
+use Rattle.chyp_reach.proofs.Chains.{and-both, or-left, or-right, or-split, relates-within}
 use Rattle.chyp_check.specs.Project.{Node, HaveDistinctNames, Reflects, library_in, name_at, node_at, text_at}
-
-abbrev names_in : List Node → List (List ℕ)
-names_in nodes = map (λ (n : Node). n.0) nodes
+use Rattle.chyp_check.proofs.Nodes.{names_in}
+use Rattle.chyp_load.proofs.Reading.{at-last}
 
 name-among : (nodes : List Node) (i : ℕ) → i < length nodes → Contains (names_in nodes) (name_at nodes i)
 name-among [] i h = absurd (omega arith)
@@ -134,9 +133,6 @@ pub record AreAdded (nodes : List Node) (names : List (List ℕ)) (from : ℕ) (
   pub only : (j : ℕ) → j < length nodes → relates now from j ≡ true → Contains names (name_at nodes j)
   pub all : (k j : ℕ) → k < many → j < length nodes → slice_index_or names k [] ≡ name_at nodes j → relates now from j ≡ true
 
-one-more : (many k : ℕ) → k < many + 1 → (k < many) ⊎ (k ≡ many)
-one-more many k h = elim (cases_lt k many) [ inl g ↦ inl g | inr g ↦ inr (omega arith) ]
-
 found-name : (names : List (List ℕ)) (name : List ℕ) (k : ℕ) → k < length names → name ≡ slice_index_or names k name → slice_index_or names k [] ≡ name
 found-name [] name k h e = absurd (omega arith)
 found-name (x ∷ xs) name zero h e = sym e
@@ -146,18 +142,6 @@ or-false : (a b : Bool) → b ≡ false → (a || b) ≡ a
 or-false true b e = refl
 or-false false b e = e
 
-or-cases : (a b : Bool) → (a || b) ≡ true → (a ≡ true) ⊎ (b ≡ true)
-or-cases true b e = inl refl
-or-cases false b e = inr e
-
-or-right : (a b : Bool) → b ≡ true → (a || b) ≡ true
-or-right true b e = refl
-or-right false b e = e
-
-or-left : (a b : Bool) → a ≡ true → (a || b) ≡ true
-or-left true b e = refl
-or-left false b e = absurd (false≢true e)
-
 and-false : (a b : Bool) → a ≡ false → (a && b) ≡ false
 and-false true b e = absurd (false≢true (sym e))
 and-false false b e = refl
@@ -166,10 +150,6 @@ and-right : (a b : Bool) → (a && b) ≡ true → b ≡ true
 and-right true b e = e
 and-right false b e = absurd (false≢true e)
 
-and-both : (a b : Bool) → a ≡ true → b ≡ true → (a && b) ≡ true
-and-both true b e f = f
-and-both false b e f = absurd (false≢true e)
-
 -- a name that is that of a node
 pub added-found : (nodes : List Node) (names : List (List ℕ)) (name : List ℕ) (from to many : ℕ) (before now next : List (List Bool)) → HaveDistinctNames nodes
     → many < length names → name ≡ slice_index_or names many name → to < length nodes → name_at nodes to ≡ name
@@ -177,11 +157,11 @@ pub added-found : (nodes : List Node) (names : List (List ℕ)) (name : List ℕ
     → AreAdded nodes names from before now many → AreAdded nodes names from before next (many + 1)
 added-found nodes names name from to many before now next d h is k named grown a = record {
   others = λ i j differ. grown i j ∙ or-false (relates now i j) (i == from && j == to) (and-false (i == from) (j == to) (ne_eqb i from differ)) ∙ a.others i j differ;
-  only = λ j within e. elim (or-cases (relates now from j) (from == from && j == to) (sym (grown from j) ∙ e)) [
+  only = λ j within e. elim (or-split (relates now from j) (from == from && j == to) (sym (grown from j) ∙ e)) [
     | inl f ↦ a.only j within f
     | inr f ↦ among j (eqb-true j to (and-right (from == from) (j == to) f))
   ];
-  all = λ k' j g within e. grown from j ∙ marked k' j within e (one-more many k' g);
+  all = λ k' j g within e. grown from j ∙ marked k' j within e (at-last many k' g);
 }
   where
     there : slice_index_or names many [] ≡ name
@@ -205,7 +185,7 @@ pub added-none : (nodes : List Node) (names : List (List ℕ)) (name : List ℕ)
 added-none nodes names name from many before now h is none a = record {
   others = a.others;
   only = a.only;
-  all = λ k j g within e. marked k j within e (one-more many k g);
+  all = λ k j g within e. marked k j within e (at-last many k g);
 }
   where
     marked : (k j : ℕ) → j < length nodes → slice_index_or names k [] ≡ name_at nodes j → (k < many) ⊎ (k ≡ many) → relates now from j ≡ true
@@ -249,7 +229,7 @@ pub rows-next : (nodes : List Node) (text : List ℕ) (names : List (List ℕ)) 
     → ((j : ℕ) → j < length nodes → relates next from j ≡ true ↔ Contains names (name_at nodes j))
     → AreFirstRows nodes now from → AreFirstRows nodes next (from + 1)
 rows-next nodes text names from now next is imports others row first = record {
-  imports = λ i j h k. go i j k (one-more from i h);
+  imports = λ i j h k. go i j k (at-last from i h);
   behind = λ i j h. others i j (λ e. omega arith) ∙ first.behind i j (omega arith);
 }
   where

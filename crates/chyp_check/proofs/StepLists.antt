@@ -2,14 +2,12 @@
 use Rattle.std.proofs.Common.{◌≡◌, ℕ, zero, suc, ◌+◌, ◌-◌, ◌<◌, ◌≤◌, List, [], ◌∷◌, length, Some, None, slice_get, slice_index_or, refl, sym, ◌∙◌, ap, subst, arith, ◌⊎◌, inl, inr, All}
 use Rattle.std.proofs.lemmas.Bool.{cases_lt}
 use Rattle.std.proofs.lemmas.List.{length-map}
-use Rattle.chyp_term.specs.Derivation.{IsEquation}
 use Rattle.chyp_term.specs.Morphism.{Morphism}
 use Rattle.chyp_term.specs.Step.{Reason, reason_of, reasons_of}
 use Rattle.chyp_term.specs.declared.step.Step.{Step}
 use Rattle.chyp_judge.specs.Judged.{CanBeJudged, IsJudgement}
 use Rattle.chyp_judge.specs.declared.judged.Judged.{Judged}
 use Rattle.chyp_judge.specs.declared.judged.Judged.TheVariants.{Differs, Good, NoRewrite, SimpDiffers, SimpLimit, TooWide}
-use Rattle.chyp_names.specs.Typing.{AreTypedAlike}
 use Rattle.chyp_simp.specs.Laws.{IsUsable}
 use Rattle.chyp_verdicts.specs.Steps.{AreGood, AreUsable, Move, moves_of, refusal_at, rules_of}
 use Rattle.chyp_verdicts.proofs.OneVerdict.{slice_get-read, some-once}
@@ -62,13 +60,6 @@ pub reason-at : (steps : List Step) (k : ℕ) (step : Step) → slice_get steps 
 reason-at [] k step e = absurd cc
 reason-at (s ∷ ss) zero step e = let same : s ≡ step = cc in ap (λ x. Some (reason_of x)) same
 reason-at (s ∷ ss) (suc k) step e = reason-at ss k step e
-
--- two of the terms are an equation
-pub typed-at : (terms : List Morphism) (j k : ℕ) (s t : Morphism) → AreTypedAlike terms → slice_get terms j ≡ Some s → slice_get terms k ≡ Some t → IsEquation s t
-typed-at terms j k s t alike e f =
-    let a = slice_get-read terms j s e in
-    let b = slice_get-read terms k t f in
-    subst (IsEquation s) b.1 (subst (λ m. IsEquation m (slice_index_or terms k t)) a.1 (alike j s a.0 k t b.0))
 
 -- the step at a place can be judged
 pub judged-at : (reasons : List Reason) (k : ℕ) (r : Reason) → AreUsable reasons → slice_get reasons k ≡ Some r → CanBeJudged r

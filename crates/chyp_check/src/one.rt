@@ -7,7 +7,8 @@ ghost use Rattle.chyp_names.specs.Binding.{IsOutcome};
 ghost use Rattle.chyp_names.specs.Elaboration.{IsBody, IsRefused, Passes};
 ghost use Rattle.chyp_names.specs.Typing.{AreTypedAlike};
 ghost use Rattle.chyp_term.specs.Step.{reasons_of};
-ghost use Rattle.chyp_verdicts.specs.Judged.{IsJudged, IsVerdictOf, is_rewrite};
+ghost use Rattle.chyp_verdicts.specs.Judged.{IsJudged, is_rewrite};
+ghost use Rattle.chyp_verdicts.specs.Bodies.{IsVerdictOf};
 ghost use Rattle.chyp_verdicts.specs.Steps.{AreUsable};
 ghost use Rattle.chyp_check.specs.Inputs.{site_at};
 

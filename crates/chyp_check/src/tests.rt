@@ -49,7 +49,7 @@ const CASES: [Case; 12] = [
         modules: &[],
         verdicts: "n",
     },
-    // Circles of one, of two and of three modules.
+    // Cycles of one, of two and of three modules.
     Case {
         text: b"import a import b import d",
         modules: &[
@@ -62,7 +62,7 @@ const CASES: [Case; 12] = [
         ],
         verdicts: "ccc",
     },
-    // A module that only reaches a circle.
+    // A module that only reaches a cycle.
     Case {
         text: b"import r let k = f",
         modules: &[("r", b"gen f : 1 -> 1 import a"), ("a", b"import a")],

@@ -122,7 +122,7 @@ distinct-append (x ∷ env) bs h k apart = (
     go b (inl c) same = unbound-each env x.name b h.0 c same
     go b (inr c) same = unbound-each (x ∷ env) b.name x (apart b c) (0, omega arith, refl) (sym same)
 
-not-false : (b : Bool) → not b ≡ true → b ≡ false
+pub not-false : (b : Bool) → not b ≡ true → b ≡ false
 not-false true e = absurd (false≢true e)
 not-false false e = refl
 
@@ -155,7 +155,7 @@ no-name : (o : Option Binding) → option_map (λ (b : Binding). b.name) o ≡ N
 no-name None e = refl
 no-name (Some b) e = absurd cc
 
-not-true : (b : Bool) → not b ≡ false → b ≡ true
+pub not-true : (b : Bool) → not b ≡ false → b ≡ true
 not-true true e = refl
 not-true false e = absurd (false≢true (sym e))
 

@@ -9,20 +9,20 @@ use Rattle.chyp_term.specs.Derivation.{empty}
 use Rattle.chyp_term.specs.Halving.{halved_by}
 use Rattle.chyp_term.specs.Morphism.{Morphism, then, beside}
 use Rattle.chyp_env.specs.Closed.{HasBoundGenerators, HasBoundSense}
-use Rattle.chyp_env.specs.Environment.{Sense, generator, abbreviation, law, unproved, broken, Binding}
+use Rattle.chyp_env.specs.Environment.{Sense, generator, abbreviation, equation, unproved, broken, Binding}
 use Rattle.chyp_env.specs.Expansion.{expansion_in, expansions_in}
-use Rattle.chyp_env.specs.Scope.{Scope, binding_at, meaning_at, term_of}
+use Rattle.chyp_env.specs.Scope.{Scope, binding_at, term_at, term_of}
 use Rattle.chyp_env.proofs.Bindings.{binding-found}
 use Rattle.chyp_env.proofs.Closed.{AreBound}
 
 sense-term : (env : List Binding) (sense : Sense) → HasBoundSense env sense → HasBoundGenerators env (term_of sense)
 sense-term env (generator name dom cod) h = h
 sense-term env (abbreviation t) h = h
-sense-term env (law first last) h = tt
+sense-term env (equation first last) h = tt
 sense-term env unproved h = tt
 sense-term env broken h = tt
 
-meaning-bound : (s : Scope) → AreBound s.env → (token : ℕ) → HasBoundGenerators s.env (meaning_at s token)
+meaning-bound : (s : Scope) → AreBound s.env → (token : ℕ) → HasBoundGenerators s.env (term_at s token)
 meaning-bound s bound token = go (binding_at s token) refl
   where
     go : (o : Option Binding) → binding_at s token ≡ o → HasBoundGenerators s.env (option_map_or (λ (b : Binding). term_of b.sense) o empty)
@@ -62,5 +62,5 @@ mutual
       All-cons (HasBoundGenerators env) (expansion_in meaning first) (expansions_in meaning rest) (tree-bound env meaning bound first) (trees-bound env meaning bound rest)
 
 -- each generator of an expanded term is bound
-pub expansion-bound : (s : Scope) → AreBound s.env → (tree : TermTree) → HasBoundGenerators s.env (expansion_in (meaning_at s) tree)
-expansion-bound s bound tree = tree-bound s.env (meaning_at s) (meaning-bound s bound) tree
+pub expansion-bound : (s : Scope) → AreBound s.env → (tree : TermTree) → HasBoundGenerators s.env (expansion_in (term_at s) tree)
+expansion-bound s bound tree = tree-bound s.env (term_at s) (meaning-bound s bound) tree

@@ -1,13 +1,13 @@
 -- Environments stay closed when names are bound.
-use Rattle.std.proofs.Common.{◌≡◌, ◌⊎◌, ℕ, List, [], ◌∷◌, ◌++◌, All, Option, None, Some, IfSome, Result, Ok, Err, OnOk, OnErr, inl, inr, refl, sym, ap, subst, ◌∙◌}
+use Rattle.std.proofs.Common.{◌≡◌, ◌⊎◌, ℕ, List, [], ◌∷◌, ◌++◌, All, Option, None, Some, IfSome, Result, Ok, Err, OnOk, OnErr, inl, inr, sym, ap, subst, ◌∙◌}
 use Rattle.std.specs.Prelude.{Contains}
-use Rattle.std.proofs.lemmas.List.Elements.{All-append, All-cons, All-filter, All-map, All-nil, Contains-append_left, Contains-push}
+use Rattle.std.proofs.lemmas.List.Elements.{All-append, All-cons, All-filter, All-map, All-nil, Contains-append_left}
 use Rattle.chyp_base.specs.declared.sort.Sort.{Sort}
 use Rattle.chyp_lex.specs.Names.{IsNameText}
 use Rattle.chyp_lex.proofs.Joining.{joined-name}
 use Rattle.chyp_term.specs.Morphism.{Morphism, generator as a_generator, permutation, then, beside}
 use Rattle.chyp_env.specs.Closed.{FitsBehind, HasBoundGenerators, HasBoundSense, IsBoundGenerator, IsClosed}
-use Rattle.chyp_env.specs.Environment.{Sense, generator, abbreviation, law, unproved, broken, Binding}
+use Rattle.chyp_env.specs.Environment.{Sense, generator, abbreviation, equation, unproved, broken, Binding}
 use Rattle.chyp_env.specs.Import.{AgreeOnOrigins, all_passed_on, first_clash, new_in, passed_on, prefixed}
 use Rattle.chyp_env.specs.Site.{there}
 use Rattle.chyp_env.proofs.Bindings.{import-covers}
@@ -25,7 +25,7 @@ term-covered env next covers (beside s t) h = (term-covered env next covers s h.
 pub sense-covered : (env next : List Binding) → Covers env next → (sense : Sense) → HasBoundSense env sense → HasBoundSense next sense
 sense-covered env next covers (generator name dom cod) h = covers name dom cod h
 sense-covered env next covers (abbreviation t) h = term-covered env next covers t h
-sense-covered env next covers (law first last) h = (term-covered env next covers first h.0, term-covered env next covers last h.1)
+sense-covered env next covers (equation first last) h = (term-covered env next covers first h.0, term-covered env next covers last h.1)
 sense-covered env next covers unproved h = tt
 sense-covered env next covers broken h = tt
 
@@ -64,10 +64,6 @@ bound-import here bs prefix bound theirs agree none =
     let P : Binding → Type 0 = λ c. HasBoundSense after c.sense in
     All-append P here (new_in here all) (λ k d h. sense-covered here after (covers-append here (new_in here all)) _ (bound k d h))
     (All-filter _ P all (All-map P (passed_on prefix) bs (λ k d h. sense-covered bs after covers _ (theirs k d h))))
-
--- no name is closed
-pub closed-none : IsClosed []
-closed-none = record { generators = All-nil _; names = All-nil _ }
 
 -- so it stays behind a name that fits
 pub closed-push : (env : List Binding) (b : Binding) → IsClosed env → FitsBehind env b → IsClosed (env ++ b ∷ [])

@@ -1,26 +1,19 @@
 -- The entries of an environment, and the bindings that they are.
-use Rattle.std.proofs.Common.{◌≡◌, ℕ, Bool, true, false, cond, List, [], ◌∷◌, ◌++◌, Option, None, Some, refl, sym, ap, subst, ◌∙◌, All, map, true≢false, is_some, IsTrue, Bor, IfSome, IfNone}
+use Rattle.std.proofs.Common.{◌≡◌, ℕ, Bool, true, false, cond, List, [], ◌∷◌, ◌++◌, Option, None, Some, refl, sym, ap, subst, ◌∙◌, All, map, true≢false, is_some, Bor, IfSome, IfNone}
 use Rattle.std.proofs.lemmas.List.{map-append}
 use Rattle.std.proofs.lemmas.List.Elements.{All-head, All-tail, All-map, All-push}
 use Rattle.std.specs.Cmp.Lexicographic.{nat_list_eq_equiv}
 use Rattle.std.specs.Map.{lookup}
-use Rattle.std.specs.Option.{option_copied, option_map_or}
+use Rattle.std.specs.Option.{option_copied}
 use Rattle.indexmap.specs.IndexMap.{insert_entry}
 use Rattle.std.specs.Str.{bytes_eq}
 use Rattle.chyp_term.specs.Derivation.{empty}
 use Rattle.chyp_env.specs.declared.entry.Entry.{Entry}
-use Rattle.chyp_env.specs.Entry.{entry_of, sense_of}
+use Rattle.chyp_env.specs.Entry.{entry_of}
 use Rattle.chyp_env.specs.Environment.{Binding, binding_of, is_bound}
 use Rattle.chyp_env.specs.Kept.{IsKept}
-use Rattle.chyp_env.specs.Scope.{Scope, binding_at, meaning_at, term_of}
+use Rattle.chyp_env.specs.Scope.{Scope, binding_at, term_at, term_of}
 use Rattle.chyp_env.specs.Sound.{IsSoundSense, HasDistinctNames, IsSound}
-
--- a new name goes last
-same_sign : (b c : Bool) → (IsTrue b → IsTrue c) → (IsTrue c → IsTrue b) → b ≡ c
-same_sign true true f g = refl
-same_sign true false f g = absurd (true≢false (sym (f refl)))
-same_sign false true f g = absurd (true≢false (sym (g refl)))
-same_sign false false f g = refl
 
 unbound-push : (env : List Binding) (binding : Binding) (q : List ℕ) → is_bound env q ≡ false → bytes_eq q binding.name ≡ false → is_bound (env ++ binding ∷ []) q ≡ false
 unbound-push [] binding q none other = rw other refl
@@ -133,13 +126,8 @@ module _ {R : Type 0} (entry_in : R → Entry) where
               (rest (sym (ap (λ c. is_some (cond c (Some (binding_in pair)) (binding_of (map binding_in pairs) name))) (ap (bytes_eq name) (kept_head pair pairs all).named ∙ e)) ∙ none)))
 
 -- the term that a name stands for which is bound, and one that isn't
-pub bound_term : (scope : Scope) (token : ℕ) (b : Binding) → binding_at scope token ≡ Some b → term_of b.sense ≡ meaning_at scope token
+pub bound_term : (scope : Scope) (token : ℕ) (b : Binding) → binding_at scope token ≡ Some b → term_of b.sense ≡ term_at scope token
 bound_term scope token b bound = rw bound refl
 
-pub unbound_term : (scope : Scope) (token : ℕ) → binding_at scope token ≡ None → empty ≡ meaning_at scope token
+pub unbound_term : (scope : Scope) (token : ℕ) → binding_at scope token ≡ None → empty ≡ term_at scope token
 unbound_term scope token free = rw free refl
-
--- what holds anyway holds where there is nothing
-pub for_none : {T : Type 0} {Q : Type 0} (o : Option T) → Q → IfNone o Q
-for_none None q = q
-for_none (Some x) q = tt

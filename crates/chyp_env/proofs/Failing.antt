@@ -14,12 +14,6 @@ use Rattle.chyp_syntax.proofs.Trees.{tree_of-Swap}
 use Rattle.chyp_env.specs.Typing.{Test, Condition, permutes, Holds, AllHold, FailsFirst, tests_of}
 use Rattle.chyp_env.proofs.Holding.{hold-both, hold-head, hold-tail}
 
--- a test of tests that all hold
-hold-get : (tests : List Test) (k : ℕ) (test : Test) → AllHold tests → slice_get tests k ≡ Some test → Holds test.1
-hold-get [] k test h e = absurd (cc)
-hold-get (t ∷ tests) zero test h e = let same : t ≡ test = cc in subst (λ (x : Test). Holds x.1) same (hold-head t tests h)
-hold-get (t ∷ tests) (suc k) test h e = hold-get tests k test (hold-tail t tests h) e
-
 -- the first of the first tests that fails is the first of all
 pub fails-front : (xs ys : List Test) (token : ℕ) → FailsFirst xs token → FailsFirst (xs ++ ys) token
 fails-front xs ys token f =

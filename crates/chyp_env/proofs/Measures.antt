@@ -5,7 +5,7 @@ use Rattle.chyp_term.specs.Derivation.{empty}
 use Rattle.chyp_syntax.specs.declared.term.TermAst.{TermAst}
 use Rattle.chyp_env.specs.declared.expansion.Join.{Join}
 use Rattle.chyp_env.specs.declared.sizes.Sizes.{Sizes}
-use Rattle.chyp_env.specs.Expansion.{join_of}
+use Rattle.chyp_env.specs.Join.{join_of}
 use Rattle.chyp_term.specs.Halving.{halved}
 use Rattle.chyp_env.specs.Sizes.{AreSizes}
 use Rattle.chyp_env.proofs.Halves.{part_in}

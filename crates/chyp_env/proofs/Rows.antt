@@ -33,9 +33,9 @@ abbrev pub behind : (ℕ → Morphism) → List TermAst → List ℕ → ℕ →
 behind meaning parts semis i = tests_behind meaning (get_or (terms_in meaning parts) i empty) (terms_of (map tree_of (drop (i + 1) parts))) (drop i semis)
 
 -- the term at a place
-pub term_at : (meaning : ℕ → Morphism) (parts : List TermAst) (i : ℕ) (part : TermAst) → i < length parts → part ≡ slice_index_or parts i part
+pub part_at : (meaning : ℕ → Morphism) (parts : List TermAst) (i : ℕ) (part : TermAst) → i < length parts → part ≡ slice_index_or parts i part
     → get_or (terms_in meaning parts) i empty ≡ part_in meaning part
-term_at meaning parts i part within e = at parts i within ∙ sym (ap (part_in meaning) e)
+part_at meaning parts i part within e = at parts i within ∙ sym (ap (part_in meaning) e)
   where
     at : (parts : List TermAst) (i : ℕ) → i < length parts → get_or (terms_in meaning parts) i empty ≡ part_in meaning (slice_index_or parts i part)
     at [] i h = absurd (omega arith)
@@ -53,7 +53,7 @@ behind-more meaning parts semis i part within e =
     let rest : drop (i + 1) parts ≡ part ∷ others = drop_more parts (i + 1) part within ∙ ap (λ p. p ∷ others) (sym e) in
     let semi : slice_index (drop i semis) 0 ≡ slice_index semis i = get_or-drop i semis 0 0 ∙ ap (slice_index semis) (let z : i + 0 ≡ i = omega arith in z) in
     let later : drop 1 (drop i semis) ≡ drop (i + 1) semis = drop-drop 1 i semis in
-    let here : part_in meaning part ≡ get_or (terms_in meaning parts) (i + 1) empty = sym (term_at meaning parts (i + 1) part within e) in
+    let here : part_in meaning part ≡ get_or (terms_in meaning parts) (i + 1) empty = sym (part_at meaning parts (i + 1) part within e) in
     ap (λ xs. tests_behind meaning before (terms_of (map tree_of xs)) (drop i semis)) rest
     ∙ ap (λ n. own ++ (n, meets before (part_in meaning part)) ∷ tests_behind meaning (part_in meaning part) (terms_of (map tree_of others)) (drop 1 (drop i semis))) semi
     ∙ ap₂ (λ m ss. own ++ (slice_index semis i, meets before (part_in meaning part)) ∷ tests_behind meaning m (terms_of (map tree_of others)) ss) here later
@@ -125,9 +125,6 @@ beyond-more : (meaning : ℕ → Morphism) (parts : List TermAst) (i : ℕ) (par
 beyond-more meaning parts i part within e =
     ap (λ xs. tests_of_all meaning (terms_of (map tree_of xs))) (drop_more parts i part within ∙ ap (λ p. p ∷ drop (i + 1) parts) (sym e))
 
-pub tensor-first : (meaning : ℕ → Morphism) (parts : List TermAst) → Reaches (tensor_tests meaning parts) (beyond meaning parts 0)
-tensor-first meaning parts = reaches-start _ _ refl
-
 pub tensor-next : (meaning : ℕ → Morphism) (parts : List TermAst) (i : ℕ) (part : TermAst) → i < length parts → part ≡ slice_index_or parts i part
     → Reaches (tensor_tests meaning parts) (beyond meaning parts i) → AllHold (tests_of meaning (tree_of part)) → Reaches (tensor_tests meaning parts) (beyond meaning parts (i + 1))
 tensor-next meaning parts i part within e r h =
@@ -178,7 +175,7 @@ pub typed_more : (meaning : ℕ → Morphism) (parts : List TermAst) (i : ℕ) (
     → All IsTyped (take i (terms_in meaning parts)) → IsTyped (part_in meaning part) → All IsTyped (take (i + 1) (terms_in meaning parts))
 typed_more meaning parts i part within e h k =
     let count : length (terms_in meaning parts) ≡ length parts = length-map parts (part_in meaning) in
-    All-more IsTyped (terms_in meaning parts) i empty (omega arith) h (subst IsTyped (sym (term_at meaning parts i part within e)) k)
+    All-more IsTyped (terms_in meaning parts) i empty (omega arith) h (subst IsTyped (sym (part_at meaning parts i part within e)) k)
 
 -- the type of a chain
 pub chain_shape : (meaning : ℕ → Morphism) (parts : List TermAst) (semis : List ℕ) (i : ℕ) (shape : Shape) → i + 1 ≡ length parts
@@ -202,7 +199,7 @@ wires_more f meaning parts i part xs ys within e h k =
     let terms : List Morphism = terms_in meaning parts in
     let count : length terms ≡ length parts = length-map parts (part_in meaning) in
     let m : Morphism = get_or terms i empty in
-    ap₂ (λ (as' bs : List Sort). as' ++ bs) h (k ∙ sym (ap f (term_at meaning parts i part within e)) ∙ sym (append-nil (f m)))
+    ap₂ (λ (as' bs : List Sort). as' ++ bs) h (k ∙ sym (ap f (part_at meaning parts i part within e)) ∙ sym (append-nil (f m)))
     ∙ sym (flat_map-append f (take i terms) (m ∷ [])) ∙ sym (ap (flat_map f) (take_more terms i empty (omega arith)))
 
 -- the type of a tensor

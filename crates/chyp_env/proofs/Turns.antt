@@ -1,20 +1,18 @@
 -- A loop that goes over the bindings of a module, as an import passes them on.
-use Rattle.std.proofs.Common.{◌≡◌, ℕ, zero, suc, ◌+◌, ◌<◌, ◌≤◌, Bool, true, false, cond, not, List, [], ◌∷◌, ◌++◌, map, length, take, Option, Some, None, slice_get, All, ◌⊎◌, inl, inr, refl, sym, ◌∙◌, ap, ap₂, subst, arith, append-nil, append_assoc}
-use Rattle.std.specs.Prelude.{Contains, find, fold}
-use Rattle.std.specs.List.{filter}
+use Rattle.std.proofs.Common.{◌≡◌, ℕ, zero, suc, ◌+◌, ◌≤◌, Bool, true, false, cond, not, List, [], ◌∷◌, ◌++◌, map, length, take, Option, Some, None, slice_get, All, ◌⊎◌, inl, inr, refl, sym, ◌∙◌, ap, subst, arith, append-nil, append_assoc}
+use Rattle.std.specs.Prelude.{Contains, find}
 use Rattle.std.specs.Option.{option_map}
 use Rattle.std.specs.Str.{bytes_eq}
-use Rattle.std.proofs.lemmas.Bool.{false≢true}
 use Rattle.std.proofs.lemmas.List.{map-append, take_all}
-use Rattle.std.proofs.lemmas.List.Elements.{Contains-append_cases, All-append, All-contains, All-head, All-tail, All-push, filter-append}
+use Rattle.std.proofs.lemmas.List.Elements.{Contains-append_cases, All-contains, filter-append}
 use Rattle.indexmap.specs.IndexMap.{insert_all, insert_entry}
 use Rattle.chyp_env.specs.declared.entry.Entry.{Entry}
-use Rattle.chyp_env.specs.Environment.{Binding, binding_of, is_bound}
+use Rattle.chyp_env.specs.Environment.{Binding, is_bound}
 use Rattle.chyp_env.specs.Import.{prefixed, passed_on, all_passed_on, clashes, first_clash, new_in}
-use Rattle.chyp_env.specs.Kept.{IsKept}
 use Rattle.chyp_env.specs.Sound.{HasDistinctNames}
-use Rattle.chyp_env.proofs.Bindings.{All-from, Contains-cons, Contains-from_cons, Contains-from_filter, Contains-from_map, each-unbound, unbound-each, prefixed-once, distinct-append, new-unbound, distinct-filter, distinct-passed_on}
+use Rattle.chyp_env.proofs.Bindings.{All-from, Contains-cons, Contains-from_cons, Contains-from_filter, Contains-from_map, each-unbound, unbound-each, prefixed-once, new-unbound}
 use Rattle.chyp_env.proofs.Envs.{Pairs, binding_in, AreKept, kept_head, kept_tail, inserted}
+use Rattle.chyp_term.proofs.Slices.{take-suc}
 
 -- ---- clashes
 
@@ -80,11 +78,6 @@ module _ (env bs : List Binding) (prefix : Option (List ℕ)) where
 
 -- ---- what an import binds
 
-pub take-next : {A : Type 0} (xs : List A) (n : ℕ) (x : A) → slice_get xs n ≡ Some x → take (n + 1) xs ≡ take n xs ++ x ∷ []
-take-next [] n x e = absurd cc
-take-next (y ∷ ys) zero x e = let same : y ≡ x = cc in ap (λ z. z ∷ []) same
-take-next (y ∷ ys) (suc n) x e = let next : suc n + 1 ≡ suc (n + 1) = omega arith in ap (λ k. take k (y ∷ ys)) next ∙ ap (λ zs. y ∷ zs) (take-next ys n x e)
-
 pub contains-there : {A : Type 0} (xs : List A) (n : ℕ) (x : A) → slice_get xs n ≡ Some x → Contains xs x
 contains-there [] n x e = absurd cc
 contains-there (y ∷ ys) zero x e = let same : y ≡ x = cc in (0, omega arith, same)
@@ -104,7 +97,7 @@ module _ (env bs : List Binding) (prefix : Option (List ℕ)) (n : ℕ) (b : Bin
   -- what an import binds of the next binding comes behind what it binds of those before
   pub new-next : new_in env (all_passed_on prefix (take (n + 1) bs)) ≡ new_in env (all_passed_on prefix (take n bs)) ++ new_in env (passed_on prefix b ∷ [])
   new-next =
-      ap (λ cs. new_in env (all_passed_on prefix cs)) (take-next bs n b here)
+      ap (λ cs. new_in env (all_passed_on prefix cs)) (take-suc bs n b here)
       ∙ ap (new_in env) (map-append (passed_on prefix) (take n bs) (b ∷ []))
       ∙ filter-append (λ (c : Binding). not (is_bound env c.name)) (all_passed_on prefix (take n bs)) (passed_on prefix b ∷ [])
 
@@ -158,7 +151,7 @@ module _ {R : Type 0} (entry_in : R → Entry) where
       (behind.0, behind.1 ∙ ap (λ xs. xs ++ rest) one.1 ∙ append_assoc env (x ∷ []) rest)
 
   -- names that are free among bindings are free among the entries that these are
-  pub each-free : (pairs more : Pairs entry_in) (env further : List Binding) → map (binding_in entry_in) pairs ≡ env → map (binding_in entry_in) more ≡ further → All (λ b. is_bound env b.name ≡ false) further
-      → (b : Binding) → Contains (map (binding_in entry_in) more) b → is_bound (map (binding_in entry_in) pairs) b.name ≡ false
+  pub each-free : (pairs more : Pairs entry_in) (env further : List Binding) → map (binding_in entry_in) pairs ≡ env → map (binding_in entry_in) more ≡ further
+      → All (λ b. is_bound env b.name ≡ false) further → (b : Binding) → Contains (map (binding_in entry_in) more) b → is_bound (map (binding_in entry_in) pairs) b.name ≡ false
   each-free pairs more env further are those free b has =
       ap (λ e. is_bound e b.name) are ∙ All-contains (λ (x : Binding). is_bound env x.name ≡ false) further b free (subst (λ bs. Contains bs b) those has)

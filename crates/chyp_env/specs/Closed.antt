@@ -3,7 +3,7 @@ use Rattle.std.specs.Prelude.{◌≡◌, ℕ, List, ◌++◌, ◌∷◌, [], Con
 use Rattle.chyp_base.specs.declared.sort.Sort.{Sort}
 use Rattle.chyp_lex.specs.Names.{IsNameText}
 use Rattle.chyp_term.specs.Morphism.{Morphism, generator as a_generator, permutation, then, beside}
-use Rattle.chyp_env.specs.Environment.{Sense, generator, abbreviation, law, unproved, broken, Binding}
+use Rattle.chyp_env.specs.Environment.{Sense, generator, abbreviation, equation, unproved, broken, Binding}
 
 -- a binding of the environment is that of the generator
 pub record IsBoundGenerator (env : List Binding) (name : List ℕ) (dom cod : List Sort) : Type 0 where
@@ -22,7 +22,7 @@ HasBoundGenerators env (beside s t) = HasBoundGenerators env s × HasBoundGenera
 abbrev pub HasBoundSense : List Binding → Sense → Type 0
 HasBoundSense env (generator name dom cod) = IsBoundGenerator env name dom cod
 HasBoundSense env (abbreviation term) = HasBoundGenerators env term
-HasBoundSense env (law first last) = HasBoundGenerators env first × HasBoundGenerators env last
+HasBoundSense env (equation first last) = HasBoundGenerators env first × HasBoundGenerators env last
 HasBoundSense env unproved = Unit {0}
 HasBoundSense env broken = Unit {0}
 

@@ -7,7 +7,7 @@ use Rattle.chyp_lex.specs.contracts.token.TokenKind as kind
 use Rattle.chyp_base.specs.declared.sort.Sort.{Sort}
 use Rattle.chyp_term.specs.Derivation.{empty}
 use Rattle.chyp_term.specs.Morphism.{Morphism, generator as a_generator, permutation, then, beside}
-use Rattle.chyp_env.specs.Environment.{Sense, generator, abbreviation, law, unproved, broken, Binding}
+use Rattle.chyp_env.specs.Environment.{Sense, generator, abbreviation, equation, unproved, broken, Binding}
 use Rattle.chyp_env.specs.Scope.{Scope}
 use Rattle.chyp_lex.specs.declared.token.TokenKind.{TokenKind}
 use Rattle.chyp_syntax.specs.Words.{Word}
@@ -70,28 +70,28 @@ node_code =
 abbrev pub morphism_code : Coded Morphism
 morphism_code = code_by (List Node) (coded_list node_code) nodes_of (λ nodes. top (read nodes [])) top-nodes_of
 
--- a generator, a term, a law, or a sign for what is not proved (true) or broken
+-- a generator, a term, an equation, or a sign for what is not proved (true) or broken
 abbrev pub Parts : Type 0
 Parts = (List ℕ × (List Sort × List Sort)) ⊎ (Morphism ⊎ ((Morphism × Morphism) ⊎ Bool))
 
 abbrev pub parts_of : Sense → Parts
 parts_of (generator name dom cod) = inl (name, (dom, cod))
 parts_of (abbreviation term) = inr (inl term)
-parts_of (law first last) = inr (inr (inl (first, last)))
+parts_of (equation first last) = inr (inr (inl (first, last)))
 parts_of unproved = inr (inr (inr true))
 parts_of broken = inr (inr (inr false))
 
 abbrev pub sense_with : Parts → Sense
 sense_with (inl g) = generator g.0 g.1.0 g.1.1
 sense_with (inr (inl term)) = abbreviation term
-sense_with (inr (inr (inl sides))) = law sides.0 sides.1
+sense_with (inr (inr (inl sides))) = equation sides.0 sides.1
 sense_with (inr (inr (inr true))) = unproved
 sense_with (inr (inr (inr false))) = broken
 
 pub sense_with-parts_of : (sense : Sense) → sense_with (parts_of sense) ≡ sense
 sense_with-parts_of (generator name dom cod) = refl
 sense_with-parts_of (abbreviation term) = refl
-sense_with-parts_of (law first last) = refl
+sense_with-parts_of (equation first last) = refl
 sense_with-parts_of unproved = refl
 sense_with-parts_of broken = refl
 

@@ -3,13 +3,13 @@ use Rattle.chyp_term.specs.Term.{morphism_of}
 use Rattle.chyp_env.specs.declared.entry.Entry.{Entry}
 use Rattle.chyp_env.specs.declared.meaning.Meaning.{Meaning}
 use Rattle.chyp_env.specs.declared.meaning.Meaning.TheVariants.{Generator, Abbrev, Law, Unproved, Broken}
-use Rattle.chyp_env.specs.Environment.{Sense, generator, abbreviation, law, unproved, broken, Binding}
+use Rattle.chyp_env.specs.Environment.{Sense, generator, abbreviation, equation, unproved, broken, Binding}
 
 -- what a meaning stands for, however its terms are shared
 abbrev pub sense_of : Meaning → Sense
 sense_of (Generator name shape) = generator name shape.dom shape.cod
 sense_of (Abbrev term) = abbreviation term
-sense_of (Law equation) = law (morphism_of equation.left) (morphism_of equation.right)
+sense_of (Law sides) = equation (morphism_of sides.left) (morphism_of sides.right)
 sense_of Unproved = unproved
 sense_of Broken = broken
 

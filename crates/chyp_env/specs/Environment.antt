@@ -4,12 +4,12 @@ use Rattle.std.specs.Str.{bytes_eq}
 use Rattle.chyp_base.specs.declared.sort.Sort.{Sort}
 use Rattle.chyp_term.specs.Morphism.{Morphism}
 
--- What a name stands for: a generator, by its name in terms and its type; a term; a law, from its first side to its last;
+-- What a name stands for: a generator, by its name in terms and its type; a term; an equation, from its first side to its last;
 -- a rewrite that is not proved; or a `gen`, `let` or `rule` that was refused.
 pub data Sense : Type 0 where
   generator : (name : List ℕ) (dom cod : List Sort) → Sense
   abbreviation : (term : Morphism) → Sense
-  law : (first last : Morphism) → Sense
+  equation : (first last : Morphism) → Sense
   unproved : Sense
   broken : Sense
 

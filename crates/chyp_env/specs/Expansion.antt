@@ -3,8 +3,6 @@ use Rattle.std.specs.Prelude.{ℕ, List, [], ◌∷◌, length, replicate, None,
 use Rattle.chyp_base.specs.declared.sort.Sort.{Sort}
 use Rattle.chyp_base.specs.Sort.{plain}
 use Rattle.chyp_syntax.specs.Term.{TermTree, TermTrees, named, wire, empty as no_wire, swap, chain, beside as tensor, no_terms, term}
-use Rattle.chyp_env.specs.declared.expansion.Join.{Join}
-use Rattle.chyp_env.specs.declared.expansion.Join.TheVariants.{Then, Beside}
 use Rattle.chyp_term.specs.Morphism.{Morphism, permutation, then, beside}
 use Rattle.chyp_term.specs.Halving.{halved}
 
@@ -15,11 +13,6 @@ plain_wires n = replicate n plain
 -- the places are those of plain wires
 abbrev pub plain_permutation : List ℕ → Morphism
 plain_permutation places = permutation (plain_wires (length places)) places
-
--- the ways to join two terms
-abbrev pub join_of : Join → Morphism → Morphism → Morphism
-join_of Then = then
-join_of Beside = beside
 
 abbrev mutual
   -- The term of a tree, where `meaning` is the term that a name stands for, by the number of its token: `id` is one wire,

@@ -15,3 +15,4 @@ pub mod Site
 pub mod Sizes
 pub mod Sound
 pub mod Typing
+pub mod Join

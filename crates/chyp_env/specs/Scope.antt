@@ -28,5 +28,5 @@ term_of (abbreviation m) = m
 term_of _ = empty
 
 -- the term that the name of this word stands for
-abbrev pub meaning_at : Scope → ℕ → Morphism
-meaning_at scope token = option_map_or (λ binding. term_of binding.sense) (binding_at scope token) empty
+abbrev pub term_at : Scope → ℕ → Morphism
+term_at scope token = option_map_or (λ binding. term_of binding.sense) (binding_at scope token) empty

@@ -2,14 +2,14 @@
 use Rattle.std.specs.Prelude.{◌≡◌, ◌≤◌, false, List, [], ◌∷◌, length, All}
 use Rattle.chyp_term.specs.Derivation.{IsEquation}
 use Rattle.chyp_term.specs.Morphism.{IsTyped}
-use Rattle.chyp_env.specs.Environment.{Sense, generator, abbreviation, law, unproved, broken, Binding, is_bound}
+use Rattle.chyp_env.specs.Environment.{Sense, generator, abbreviation, equation, unproved, broken, Binding, is_bound}
 use Rattle.chyp_term.specs.Limits.{IsWithinLimits, most_ports}
 
--- terms are typed and within the limits, a law is an equation of two such terms, and generators have few ports
+-- terms are typed and within the limits, the two of an equation have one type, and generators have few ports
 abbrev pub IsSoundSense : Sense → Type 0
 IsSoundSense (generator name dom cod) = (length dom ≤ most_ports) × (length cod ≤ most_ports)
 IsSoundSense (abbreviation term) = IsTyped term × IsWithinLimits term
-IsSoundSense (law first last) = IsEquation first last × IsWithinLimits first × IsWithinLimits last
+IsSoundSense (equation first last) = IsEquation first last × IsWithinLimits first × IsWithinLimits last
 IsSoundSense unproved = Unit {0}
 IsSoundSense broken = Unit {0}
 

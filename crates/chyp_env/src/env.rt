@@ -18,8 +18,8 @@ use std::rc::Rc;
 
 /// What names stand for, in the order of binding, each name once. Contracts see it as the list of its
 /// bindings, of `specs/Environment.antt`, and it is always sound and closed: terms are typed and within
-/// the limits on one term, laws are equations, and generators have few ports; each generator of a term has
-/// an entry of its own, and each name is one that a text may use.
+/// the limits on one term, the two of an equation have one type, and generators have few ports; each
+/// generator of a term has an entry of its own, and each name is one that a text may use.
 #[derive(Drop)]
 pub struct Env {
     entries: Entries,

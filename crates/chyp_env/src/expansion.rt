@@ -5,9 +5,10 @@ ghost use Rattle.chyp_term.specs.Perm.{IsPermutation};
 ghost use Rattle.chyp_term.specs.Term.{morphism_of};
 ghost use Rattle.chyp_syntax.specs.Term.{tree_of};
 ghost use Rattle.chyp_env.specs.Entry.{sense_of};
-ghost use Rattle.chyp_env.specs.Expansion.{expansion_in, join_of, plain_permutation};
+ghost use Rattle.chyp_env.specs.Expansion.{expansion_in, plain_permutation};
+ghost use Rattle.chyp_env.specs.Join.{join_of};
 ghost use Rattle.chyp_term.specs.Halving.{halved};
-ghost use Rattle.chyp_env.specs.Scope.{meaning_at, term_of};
+ghost use Rattle.chyp_env.specs.Scope.{term_at, term_of};
 ghost use Rattle.chyp_env.specs.Typing.{AllHold, tests_of};
 
 use crate::plain_wires::{PlainWires, permutation};
@@ -40,9 +41,9 @@ pub(crate) fn expand(
     tree: &TermAst,
     scope: &Scope<'_>,
 ) -> Result<Term, NoMemory>
-    requires { AllHold (tests_of (meaning_at scope.now) (tree_of tree.now)) }
+    requires { AllHold (tests_of (term_at scope.now) (tree_of tree.now)) }
     ensures { IfOk result (λ term.
-        morphism_of term ≡ expansion_in (meaning_at scope.now) (tree_of tree.now)) }
+        morphism_of term ≡ expansion_in (term_at scope.now) (tree_of tree.now)) }
 {
     match tree {
         TermAst::Named(token) => named(alloc, *token, scope),
@@ -67,9 +68,9 @@ fn row(
     scope: &Scope<'_>,
 ) -> Result<Term, NoMemory>
     requires { All (λ part.
-        AllHold (tests_of (meaning_at scope.now) (tree_of part))) parts.now }
+        AllHold (tests_of (term_at scope.now) (tree_of part))) parts.now }
     ensures { IfOk result (λ term. morphism_of term ≡ halved (join_of join)
-        (map (λ part. expansion_in (meaning_at scope.now) (tree_of part)) parts.now)) }
+        (map (λ part. expansion_in (term_at scope.now) (tree_of part)) parts.now)) }
 {
     match parts {
         [] => no_wires(alloc),
@@ -97,7 +98,7 @@ fn joined(alloc: Global, join: Join, first: Term, rest: Term) -> Result<Term, No
 
 // The term that the name of this token stands for.
 fn named(alloc: Global, token: u32, scope: &Scope<'_>) -> Result<Term, NoMemory>
-    ensures { IfOk result (λ term. morphism_of term ≡ meaning_at scope.now token) }
+    ensures { IfOk result (λ term. morphism_of term ≡ term_at scope.now token) }
 {
     match scope.entry_at(token) {
         Some(entry) => meant(alloc, &entry.meaning),

@@ -5,7 +5,7 @@ ghost use Rattle.chyp_term.specs.Term.{morphism_of};
 ghost use Rattle.chyp_syntax.specs.Term.{tree_of};
 ghost use Rattle.chyp_env.specs.Expansion.{expansion_in};
 ghost use Rattle.chyp_env.specs.Shape.{IsShape};
-ghost use Rattle.chyp_env.specs.Scope.{meaning_at};
+ghost use Rattle.chyp_env.specs.Scope.{term_at};
 ghost use Rattle.chyp_env.specs.Sizes.{AreSizes};
 ghost use Rattle.chyp_env.specs.Typing.{AllHold, FailsFirst, tests_of};
 
@@ -76,11 +76,11 @@ impl KnownTerm {
         tree: &TermAst,
         scope: &Scope<'_>,
     ) -> Result<KnownTerm, TypeFault>
-        requires { IsWithinLimits (expansion_in (meaning_at scope.now) (tree_of tree.now)) }
-        ensures holds { IsOk result → AllHold (tests_of (meaning_at scope.now) (tree_of tree.now)) }
-        ensures term { IfOk result (λ known. known ≡ expansion_in (meaning_at scope.now) (tree_of tree.now)) }
+        requires { IsWithinLimits (expansion_in (term_at scope.now) (tree_of tree.now)) }
+        ensures holds { IsOk result → AllHold (tests_of (term_at scope.now) (tree_of tree.now)) }
+        ensures term { IfOk result (λ known. known ≡ expansion_in (term_at scope.now) (tree_of tree.now)) }
         ensures fails { (token : ℕ) → result ≡ Err (TypeFault.Fails token) →
-            FailsFirst (tests_of (meaning_at scope.now) (tree_of tree.now)) token }
+            FailsFirst (tests_of (term_at scope.now) (tree_of tree.now)) token }
     {
         let shape = shape_of_tree(alloc, plain, tree, scope)?;
         let sizes = sizes_of(tree, scope);

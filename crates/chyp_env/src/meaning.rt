@@ -15,7 +15,7 @@ pub enum Meaning {
     Generator(Name, Shape),
     /// A term.
     Abbrev(KnownTerm),
-    /// A law, which leads from its left side to its right one.
+    /// An equation, which leads from its left side to its right one: that of a `rule` or of a proved `rewrite`.
     Law(Equation),
     /// A rewrite that is not proved.
     Unproved,

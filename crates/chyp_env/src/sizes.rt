@@ -4,10 +4,11 @@ ghost use Rattle.chyp_base.specs.declared.sort.Sort.{Sort};
 ghost use Rattle.chyp_term.specs.Morphism.{Morphism, generator as a_generator, permutation};
 ghost use Rattle.chyp_syntax.specs.Term.{tree_of};
 ghost use Rattle.chyp_env.specs.Entry.{sense_of};
-ghost use Rattle.chyp_env.specs.Expansion.{expansion_in, join_of};
+ghost use Rattle.chyp_env.specs.Expansion.{expansion_in};
+ghost use Rattle.chyp_env.specs.Join.{join_of};
 ghost use Rattle.chyp_term.specs.Halving.{halved};
 ghost use Rattle.chyp_env.specs.Sizes.{AreSizes};
-ghost use Rattle.chyp_env.specs.Scope.{meaning_at, term_of};
+ghost use Rattle.chyp_env.specs.Scope.{term_at, term_of};
 
 use crate::expansion::Join;
 use crate::{Meaning, Scope};
@@ -29,7 +30,7 @@ pub struct Sizes {
 /// recursion as deep as that term.
 #[cycle(sizes)]
 pub fn sizes_of(tree: &TermAst, scope: &Scope<'_>) -> Sizes
-    ensures { AreSizes result (expansion_in (meaning_at scope.now) (tree_of tree.now)) }
+    ensures { AreSizes result (expansion_in (term_at scope.now) (tree_of tree.now)) }
 {
     match tree {
         TermAst::Named(token) => sizes_of_name(*token, scope),
@@ -49,7 +50,7 @@ pub fn sizes_of(tree: &TermAst, scope: &Scope<'_>) -> Sizes
 #[cycle(sizes)]
 fn sizes_of_row(parts: &[TermAst], scope: &Scope<'_>) -> Sizes
     ensures { (join : Join) → AreSizes result (halved (join_of join)
-        (map (λ part. expansion_in (meaning_at scope.now) (tree_of part)) parts.now)) }
+        (map (λ part. expansion_in (term_at scope.now) (tree_of part)) parts.now)) }
 {
     match parts {
         [] => sizes_of_permutation(0),
@@ -87,7 +88,7 @@ fn sizes_of_permutation(count: usize) -> Sizes
 
 // The measures of the term that the name of this token stands for.
 fn sizes_of_name(token: u32, scope: &Scope<'_>) -> Sizes
-    ensures { AreSizes result (meaning_at scope.now token) }
+    ensures { AreSizes result (term_at scope.now token) }
 {
     match scope.entry_at(token) {
         Some(entry) => sizes_of_meaning(&entry.meaning),

@@ -7,7 +7,7 @@ ghost use Rattle.chyp_term.specs.Perm.{IsPermutation};
 ghost use Rattle.chyp_env.specs.Entry.{sense_of};
 ghost use Rattle.chyp_env.specs.Expansion.{expansion_in, plain_permutation};
 ghost use Rattle.chyp_env.specs.Shape.{IsShape};
-ghost use Rattle.chyp_env.specs.Scope.{meaning_at, term_of};
+ghost use Rattle.chyp_env.specs.Scope.{term_at, term_of};
 ghost use Rattle.chyp_env.specs.Typing.{AllHold, FailsFirst, tests_of};
 
 use crate::expansion::narrowed;
@@ -55,11 +55,11 @@ pub(crate) fn shape_of_tree(
     tree: &TermAst,
     scope: &Scope<'_>,
 ) -> Result<Shape, TypeFault>
-    ensures holds { IsOk result → AllHold (tests_of (meaning_at scope.now) (tree_of tree.now)) }
+    ensures holds { IsOk result → AllHold (tests_of (term_at scope.now) (tree_of tree.now)) }
     ensures shape { IfOk result (λ shape.
-        IsShape shape (expansion_in (meaning_at scope.now) (tree_of tree.now))) }
+        IsShape shape (expansion_in (term_at scope.now) (tree_of tree.now))) }
     ensures fails { (token : ℕ) → result ≡ Err (TypeFault.Fails token) →
-        FailsFirst (tests_of (meaning_at scope.now) (tree_of tree.now)) token }
+        FailsFirst (tests_of (term_at scope.now) (tree_of tree.now)) token }
 {
     match tree {
         TermAst::Named(token) => Ok(shape_of_name(alloc, *token, scope)?),
@@ -86,11 +86,11 @@ fn shape_of_chain(
     scope: &Scope<'_>,
 ) -> Result<Shape, TypeFault>
     ensures holds { IsOk result → AllHold
-        (tests_of (meaning_at scope.now) (chain (terms_of (map tree_of parts.now)) semis.now)) }
+        (tests_of (term_at scope.now) (chain (terms_of (map tree_of parts.now)) semis.now)) }
     ensures shape { IfOk result (λ shape.
-        IsShape shape (expansion_in (meaning_at scope.now) (chain (terms_of (map tree_of parts.now)) semis.now))) }
+        IsShape shape (expansion_in (term_at scope.now) (chain (terms_of (map tree_of parts.now)) semis.now))) }
     ensures fails { (token : ℕ) → result ≡ Err (TypeFault.Fails token) →
-        FailsFirst (tests_of (meaning_at scope.now) (chain (terms_of (map tree_of parts.now)) semis.now)) token }
+        FailsFirst (tests_of (term_at scope.now) (chain (terms_of (map tree_of parts.now)) semis.now)) token }
 {
     let Some(first) = parts.first() else {
         return Ok(no_wires(alloc));
@@ -113,11 +113,11 @@ fn shape_of_tensor(
     scope: &Scope<'_>,
 ) -> Result<Shape, TypeFault>
     ensures holds { IsOk result → AllHold
-        (tests_of (meaning_at scope.now) (tensor (terms_of (map tree_of parts.now)))) }
+        (tests_of (term_at scope.now) (tensor (terms_of (map tree_of parts.now)))) }
     ensures shape { IfOk result (λ shape.
-        IsShape shape (expansion_in (meaning_at scope.now) (tensor (terms_of (map tree_of parts.now))))) }
+        IsShape shape (expansion_in (term_at scope.now) (tensor (terms_of (map tree_of parts.now))))) }
     ensures fails { (token : ℕ) → result ≡ Err (TypeFault.Fails token) →
-        FailsFirst (tests_of (meaning_at scope.now) (tensor (terms_of (map tree_of parts.now)))) token }
+        FailsFirst (tests_of (term_at scope.now) (tensor (terms_of (map tree_of parts.now)))) token }
 {
     let mut dom = Sorts::from_vec(Vec::new(alloc));
     let mut cod = Sorts::from_vec(Vec::new(alloc));
@@ -188,7 +188,7 @@ fn plain_shape(alloc: Global, plain: &PlainWires, count: usize) -> Result<Shape,
 
 // The type of the term that the name of this token stands for.
 fn shape_of_name(alloc: Global, token: u32, scope: &Scope<'_>) -> Result<Shape, NoMemory>
-    ensures { IfOk result (λ shape. IsShape shape (meaning_at scope.now token)) }
+    ensures { IfOk result (λ shape. IsShape shape (term_at scope.now token)) }
 {
     match scope.entry_at(token) {
         Some(entry) => shape_of_meaning(alloc, &entry.meaning),

@@ -8,7 +8,7 @@ ghost use Rattle.chyp_env.specs.Closed.{FitsBehind};
 ghost use Rattle.chyp_env.specs.Entry.{entry_of, sense_of};
 ghost use Rattle.chyp_env.specs.Environment.{Binding};
 ghost use Rattle.chyp_env.specs.Expansion.{expansion_in};
-ghost use Rattle.chyp_env.specs.Scope.{meaning_at};
+ghost use Rattle.chyp_env.specs.Scope.{term_at};
 ghost use Rattle.chyp_env.specs.Sound.{IsSoundSense};
 
 use crate::names::check_name;
@@ -106,7 +106,7 @@ pub(crate) fn lent<'a>(text: &'a [u8], tokens: &'a [Token]) -> ChunkView<'a>
 
 /// Whether the term of a tree is within the limits.
 fn is_small(tree: &TermAst, scope: &Scope<'_>) -> bool
-    ensures { IsTrue result → IsWithinLimits (expansion_in (meaning_at scope.now) (tree_of tree.now)) }
+    ensures { IsTrue result → IsWithinLimits (expansion_in (term_at scope.now) (tree_of tree.now)) }
 {
     let sizes = sizes_of(tree, scope);
     sizes.size <= MOST_SIZE && sizes.depth <= MOST_DEPTH && sizes.generators <= MOST_GENERATORS

@@ -1,16 +1,15 @@
 -- Which statements are imports.
-use Rattle.std.proofs.Common.{◌≡◌, ℕ, List, [], ◌∷◌, Option, None, Some, refl, sym, ◌∙◌, ap, subst}
+use Rattle.std.proofs.Common.{◌≡◌, ℕ, List, [], ◌∷◌, Option, Some, refl, ap, subst}
 use Rattle.std.specs.Str.{IsUtf8}
 use Rattle.std.proofs.lemmas.List.Elements.{All-head, All-tail}
 use Rattle.chyp_lex.specs.declared.token.TokenKind.TheVariants.{Ident, WordImport}
-use Rattle.chyp_syntax.specs.Failing.{HasOneTree}
 use Rattle.chyp_syntax.specs.Numbered.{NumberedToken, kind_of}
 use Rattle.chyp_syntax.specs.Sentence.{IsStatement, IsSentence, is_gen, is_let, is_rule, is_rewrite, is_import, is_import_as, is_show}
-use Rattle.chyp_syntax.specs.Statement.{StatementTree, generator, definition, rule, rewrite, inclusion, showing}
+use Rattle.chyp_syntax.specs.Statement.{StatementTree, generator, abbreviation, rule, rewrite, inclusion, showing}
 use Rattle.chyp_syntax.specs.Words.{Word, bytes_at, keyword_in}
 use Rattle.chyp_env.specs.ChunkView.{AreSpelled}
-use Rattle.chyp_modules.specs.Import.{Imports, ImportsNothing}
-use Rattle.chyp_load.specs.Imports.{imported_word}
+use Rattle.chyp_modules.specs.Import.{ImportsNothing}
+use Rattle.chyp_load.specs.Imported.{imported_word}
 
 -- how an import begins: with its keyword, and with the name of the module
 abbrev Begins : StatementTree → List NumberedToken → Type 0
@@ -50,26 +49,7 @@ pub module_spelled : (words : List Word) (tree : StatementTree) (word : ℕ) →
     → IsUtf8 (bytes_at words word)
 module_spelled words (inclusion w prefix) word spelled s e = let same : w ≡ word = cc in subst (λ n. IsUtf8 (bytes_at words n)) same (import_spelled words w prefix spelled s)
 module_spelled words (generator name dom cod) word spelled s e = absurd cc
-module_spelled words (definition name term) word spelled s e = absurd cc
+module_spelled words (abbreviation name term) word spelled s e = absurd cc
 module_spelled words (rule name left equals right) word spelled s e = absurd cc
 module_spelled words (rewrite name first steps) word spelled s e = absurd cc
 module_spelled words (showing name) word spelled s e = absurd cc
-
--- an import is one of the module that it names
-pub imports_named : (words : List Word) (tree : StatementTree) (word : ℕ) (name : List ℕ) → IsSentence words tree → imported_word tree ≡ Some word → name ≡ bytes_at words word
-    → Imports words name
-imports_named words (inclusion w prefix) word name s e n =
-    let same : w ≡ word = cc in
-    record { word = w; as_word = prefix; is_sentence = s; named = ap (bytes_at words) same ∙ sym n }
-imports_named words (generator name dom cod) word n s e m = absurd cc
-imports_named words (definition name term) word n s e m = absurd cc
-imports_named words (rule name left equals right) word n s e m = absurd cc
-imports_named words (rewrite name first steps) word n s e m = absurd cc
-imports_named words (showing name) word n s e m = absurd cc
-
--- every other sentence is none
-pub other_tree : (words : List Word) (tree : StatementTree) → HasOneTree words → IsSentence words tree → imported_word tree ≡ None → ImportsNothing words
-other_tree words tree one s e word prefix t =
-    let same = one (inclusion word prefix) tree t s in
-    let is : Some word ≡ imported_word tree = ap imported_word same in
-    absurd cc

@@ -1,4 +1,4 @@
 mod Importing
-mod Lists
-mod Reading
+pub mod Lists
+pub mod Reading
 pub mod Texts

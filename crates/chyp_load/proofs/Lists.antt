@@ -52,7 +52,7 @@ inserted (m ∷ ms) name text fresh = go (bytes_eq name m.0) refl (inserted ms n
     go true h rest = absurd (fresh (0, omega arith, sym (names-eq name m.0 h)))
     go false h rest = ap (λ xs. m ∷ xs) rest
 
-distinct-push : (names : List (List ℕ)) (name : List ℕ) → AreDistinct names → ¬ Contains names name → AreDistinct (names ++ name ∷ [])
+pub distinct-push : (names : List (List ℕ)) (name : List ℕ) → AreDistinct names → ¬ Contains names name → AreDistinct (names ++ name ∷ [])
 distinct-push [] name d fresh = ((λ c. absurd (omega (arith, c.1))), tt)
 distinct-push (x ∷ xs) name d fresh = (
   (λ c. elim (Contains-push_cases xs name x c) [ inl h ↦ d.0 h | inr s ↦ fresh (0, omega arith, sym s) ]),

@@ -10,7 +10,6 @@ use Rattle.std.proofs.lemmas.List.Elements.{All-append, All-contains, All-cons, 
 use Rattle.chyp_lex.specs.Tokens.{text_limit}
 use Rattle.chyp_env.proofs.Bindings.{All-from, Contains-cons, Contains-from_cons, Contains-from_map, Contains-map, names-eq}
 use Rattle.chyp_verdicts.proofs.OneVerdict.{slice_get-read, some-once}
-use Rattle.chyp_verdicts.proofs.Texts.{get-there}
 use Rattle.chyp_modules.specs.Checking.{AreDistinct, AreWanted, Gives, IsWanted, Result, all_checked, long_module, long_text, many_modules, most_modules, too_long}
 use Rattle.chyp_modules.specs.Import.{LeadsTo, Reaches, at_once}
 use Rattle.chyp_modules.specs.Library.{AreStatements, Library, Module, library_of, with_main}
@@ -21,6 +20,8 @@ use Rattle.chyp_modules.proofs.Reaching.{reaches-step}
 use Rattle.chyp_load.specs.Imports.{AreImports, ImportsSome, IsImportedBy}
 use Rattle.chyp_load.specs.Loading.{AreRead, AreShort, IsLongModule, IsOneMore, IsRead, ListsAll, count_there, names_of, one_there}
 use Rattle.chyp_load.proofs.Lists.{count-more}
+use Rattle.chyp_env.proofs.Turns.{contains-there}
+use Rattle.chyp_term.proofs.Permuted.{found as get-there}
 
 -- ---- what is known on the way
 
@@ -38,7 +39,7 @@ pub record IsReading (texts : Library) (text : List ℕ) (modules : List Module)
   pub read : All (IsRead texts text) modules
 
 -- its text isn't too long
-abbrev IsShort : Module → Type 0
+abbrev pub IsShort : Module → Type 0
 IsShort m = IfSome m.1 (λ text. length text ≤ text_limit)
 
 -- ---- at the start
@@ -71,7 +72,7 @@ start-reading texts text imports are = record {
 
 -- ---- a turn
 
-at-last : (next i : ℕ) → i < next + 1 → (i < next) ⊎ (i ≡ next)
+pub at-last : (next i : ℕ) → i < next + 1 → (i < next) ⊎ (i ≡ next)
 at-last next i h = elim (cases_lt i next) [ inl l ↦ inl l | inr l ↦ inr (omega arith) ]
 
 -- a name that was read already
@@ -166,9 +167,6 @@ more-told None text name modules modules_now wanted wanted_now m c r = r
 more-told (Some texts) text name modules modules_now wanted wanted_now m c r = more-reading (Some texts) text name modules modules_now wanted wanted_now m texts refl c r
 
 -- ---- in the end
-
-get-contained : {A : Type 0} (xs : List A) (k : ℕ) (x : A) → slice_get xs k ≡ Some x → Contains xs x
-get-contained xs k x e = let r = slice_get-read xs k x e in (k, r.0, r.1)
 
 contains-get : {A : Type 0} (xs : List A) (x : A) → (c : Contains xs x) → slice_get xs c.0 ≡ Some x
 contains-get [] x c = absurd (omega (arith, c.1))
@@ -367,7 +365,7 @@ underway-start told faults text imports are = record {
   same = refl;
   no_fault = refl;
   within = omega arith;
-  some = λ h. let first = get-there imports 0 h in (first.0, are.only first.0 (get-contained imports 0 first.0 first.1));
+  some = λ h. let first = get-there imports 0 h in (first.0, are.only first.0 (contains-there imports 0 first.0 first.1));
   loaded = start text imports are;
   reading = reading-start told text imports are;
 }
@@ -375,7 +373,7 @@ underway-start told faults text imports are = record {
 module _ (told told_now : Option Library) (faults faults_now : ℕ) (text : List ℕ) (modules : List Module) (wanted : List (List ℕ)) (next : ℕ) (name : List ℕ)
     (u : IsUnderway told told_now faults faults_now text modules wanted next) (at : slice_get wanted next ≡ Some name) where
   asked : Contains wanted name
-  asked = get-contained wanted next name at
+  asked = contains-there wanted next name at
 
   inside : next < length wanted
   inside = let c = (slice_get-read wanted next name at).0 in omega (arith, c)

@@ -1,5 +1,5 @@
 -- The imports of a text, statement by statement.
-use Rattle.std.proofs.Common.{◌≡◌, ℕ, zero, suc, ◌+◌, ◌<◌, ◌≤◌, List, [], ◌∷◌, ◌++◌, length, drop, slice_get, All, IsTrue, Option, None, Some, IfSome, IfNone, ◌⊎◌, inl, inr, sym, ◌∙◌, ap, ap₂, subst, arith}
+use Rattle.std.proofs.Common.{◌≡◌, ℕ, ◌+◌, ◌<◌, ◌≤◌, List, [], ◌∷◌, ◌++◌, length, drop, slice_get, All, IsTrue, Option, None, Some, IfSome, IfNone, ◌⊎◌, inl, inr, sym, ◌∙◌, ap, ap₂, subst, arith}
 use Rattle.std.specs.Prelude.{Contains}
 use Rattle.std.specs.Str.{IsUtf8}
 use Rattle.std.proofs.lemmas.Bool.{cases_lt}
@@ -22,6 +22,8 @@ use Rattle.chyp_verdicts.proofs.OneVerdict.{some-once}
 use Rattle.chyp_modules.specs.Import.{Imports, ImportsNothing}
 use Rattle.chyp_modules.specs.Library.{AreStatements}
 use Rattle.chyp_load.specs.Imports.{AreImports, IsImportedBy}
+use Rattle.chyp_term.proofs.Positions.{slice_get-length}
+use Rattle.chyp_modules.proofs.Once.{inclusion-word}
 
 tile_few : (start end : ℕ) (chunks : List Chunk) → Tile start chunks end → start + length chunks ≤ end
 tile_few start end [] h = omega arith
@@ -37,12 +39,6 @@ spelled text tokens chunk names = λ k d h is.
     let P : Token → Type 0 = λ token. IsTrue (is_name token.kind) → IsUtf8 (token_text text token) × IsNameText (token_text text token) in
     All-take P chunk.count (drop chunk.first tokens) (All-drop P chunk.first tokens names) k d h (ap is_name is)
 
--- where a list has an element, it is long enough
-get-within : {A : Type 0} (xs : List A) (k : ℕ) (x : A) → slice_get xs k ≡ Some x → k < length xs
-get-within [] k x e = absurd cc
-get-within (y ∷ xs) zero x e = omega arith
-get-within (y ∷ xs) (suc k) x e = let rest = get-within xs k x e in omega arith
-
 -- the names are those of the modules that the first statements import, as many as this
 pub record HaveImports (text : List ℕ) (statements : List (List Word)) (count : ℕ) (names : List (List ℕ)) : Type 0 where
   pub all : (k : ℕ) (words : List Word) → k < count → slice_get statements k ≡ Some words → (name : List ℕ) → Imports words name → Contains names name
@@ -52,10 +48,6 @@ pub record HaveImports (text : List ℕ) (statements : List (List Word)) (count 
 pub no-imports : (text : List ℕ) (statements : List (List Word)) (names : List (List ℕ)) → names ≡ [] → HaveImports text statements 0 names
 no-imports text statements names e =
     subst (HaveImports text statements 0) (sym e) (record { all = λ k words h. absurd (omega arith); only = All-nil (IsImportedBy text); few = omega arith })
-
--- an import is of one module
-inclusion-word : (word w : ℕ) (prefix p : Option ℕ) → inclusion word prefix ≡ inclusion w p → word ≡ w
-inclusion-word word w prefix p e = cc
 
 same-module : (words : List Word) (name other : List ℕ) → HasOneTree words → Imports words name → Imports words other → name ≡ other
 same-module words name other one i j =
@@ -105,7 +97,7 @@ all-imports token_lists chunk_lists text tokens chunks names are have = record {
       let ours = statements_of text tokens chunks in
       let same : i.statements ≡ ours = statements-same i.statements i.are in
       let there : slice_get ours i.number ≡ Some i.words = ap (λ ss. slice_get ss i.number) (sym same) ∙ i.here in
-      let within = get-within ours i.number i.words there in
+      let within = slice_get-length ours i.number i.words there in
       let many = length-map chunks (statement_of text tokens) in
       have.all i.number i.words (omega arith) there name i.imports;
   only = λ name c. All-contains (IsImportedBy text) names name have.only c;

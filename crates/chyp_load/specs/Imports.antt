@@ -1,14 +1,8 @@
 -- Which modules the statements of a text import.
-use Rattle.std.specs.Prelude.{◌≡◌, ℕ, List, Option, None, Some, slice_get, Contains}
-use Rattle.chyp_syntax.specs.Statement.{StatementTree, inclusion}
+use Rattle.std.specs.Prelude.{◌≡◌, ℕ, List, Some, slice_get, Contains}
 use Rattle.chyp_syntax.specs.Words.{Word}
 use Rattle.chyp_modules.specs.Import.{Imports}
 use Rattle.chyp_modules.specs.Library.{AreStatements}
-
--- the number of the word that names the module of an import, None for every other statement
-abbrev pub imported_word : StatementTree → Option ℕ
-imported_word (inclusion word prefix) = Some word
-imported_word _ = None
 
 -- a statement of the text imports the module of this name
 pub record IsImportedBy (text name : List ℕ) : Type 0 where

@@ -1,3 +1,4 @@
+pub mod Imported
 pub mod Imports
 pub mod Loading
 pub mod Statements

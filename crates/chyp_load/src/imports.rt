@@ -6,7 +6,8 @@ ghost use Rattle.chyp_lex.specs.declared.token.TokenKind.{TokenKind};
 ghost use Rattle.chyp_syntax.specs.Statement.{statement_of as tree_of_ast};
 ghost use Rattle.chyp_syntax.specs.Words.{keyword_in};
 ghost use Rattle.chyp_modules.specs.Import.{Imports, ImportsNothing};
-ghost use Rattle.chyp_load.specs.Imports.{AreImports, imported_word};
+ghost use Rattle.chyp_load.specs.Imports.{AreImports};
+ghost use Rattle.chyp_load.specs.Imported.{imported_word};
 
 use crate::Statements;
 use chyp_base::{Name, NoMemory};

@@ -8,7 +8,7 @@ use Rattle.std.proofs.lemmas.Bool.{false≢true}
 use Rattle.std.proofs.lemmas.List.{append-nil, map-append}
 use Rattle.chyp_env.specs.Environment.{Binding, Sense, binding_of, is_bound, Origin}
 use Rattle.chyp_env.specs.Import.{all_passed_on, clashes, first_clash, is_origin, new_in, prefixed, same_origin}
-use Rattle.chyp_env.proofs.Bindings.{Contains-cons, Contains-from_cons, Contains-map, origin-differs, origin-is}
+use Rattle.chyp_env.proofs.Bindings.{Contains-cons, Contains-from_cons, Contains-map, not-false, not-true, origin-differs, origin-is}
 use Rattle.chyp_verdicts.proofs.OneVerdict.{none-some, some-once}
 use Rattle.chyp_modules.specs.Declares.{Adds, Clashes, Declaration, new_ones, none, offered_by, origin_of}
 use Rattle.chyp_modules.specs.Laws.{declarations_of}
@@ -74,13 +74,9 @@ clash-there env bs b has e = go (binding_of env b.name) refl e
       is_offered = Contains-declared bs b has;
       old = old.origin;
       is_declared = origin-bound env b.name ∙ ap (option_map (λ (x : Binding). x.origin)) h;
-      differs = origin-differs old.origin b.origin (flipped (same_origin old b) f);
+      differs = origin-differs old.origin b.origin (not-false (same_origin old b) f);
     }
       where
-        flipped : (c : Bool) → not c ≡ true → c ≡ false
-        flipped true e = absurd (false≢true e)
-        flipped false e = refl
-
         Contains-declared : (bs : List Binding) (b : Binding) → Contains bs b → Contains (declarations_of bs) (record { name = b.name; origin = b.origin })
         Contains-declared bs b c = Contains-map (λ (x : Binding). record { name = x.name; origin = x.origin }) bs b c
 
@@ -92,11 +88,7 @@ clash-not env b e old d = go (binding_of env b.name) refl e
     go None h f = absurd (none-some _ old (origin-bound env b.name ∙ ap (option_map (λ (x : Binding). x.origin)) h) d)
     go (Some x) h f =
         let mine : x.origin ≡ old = some-once _ x.origin old (origin-bound env b.name ∙ ap (option_map (λ (y : Binding). y.origin)) h) d in
-        sym mine ∙ origin-is x.origin b.origin (flipped (same_origin x b) f)
-      where
-        flipped : (c : Bool) → not c ≡ false → c ≡ true
-        flipped true e = refl
-        flipped false e = absurd (false≢true (sym e))
+        sym mine ∙ origin-is x.origin b.origin (not-true (same_origin x b) f)
 
 -- names clash where an import is refused for it
 pub clash-found : (env bs : List Binding) (name : List ℕ) → first_clash env bs ≡ Some name → Clashes (declarations_of env) (declarations_of bs)

@@ -11,10 +11,10 @@ use Rattle.chyp_env.specs.Environment.{Binding}
 use Rattle.chyp_env.specs.Site.{Imported, Site}
 use Rattle.chyp_verdicts.specs.Standing.{Gets}
 use Rattle.chyp_env.proofs.Bindings.{Contains-cons, Contains-from_cons, names-eq, names-same}
-use Rattle.chyp_modules.specs.Checking.{AreAllWanted, AreWanted, Gives, HasChecks, HaveStatements, IsWanted, Result, all_checked, long_module, long_text, many_modules, of_more, of_none}
+use Rattle.chyp_modules.specs.Checking.{AreAllWanted, AreWanted, HasChecks, HaveStatements, IsWanted, of_more, of_none}
 use Rattle.chyp_modules.specs.Import.{Imports, LeadsTo, Reaches, at_once, by_way_of}
 use Rattle.chyp_modules.specs.Library.{IsModule, Library, Module, library_of, with_main}
-use Rattle.chyp_modules.specs.Modules.{AreVerdicts, Finds, Makes, Stands, at_start, no_import, of_circle, of_module as found, of_none as absent, one_more, standing, stands}
+use Rattle.chyp_modules.specs.Modules.{AreVerdicts, Finds, Makes, Stands, at_start, no_import, of_cycle, of_module as found, of_none as absent, one_more, standing, stands}
 
 -- both libraries have the same text of this module, and of each that it reaches in the one
 pub record AgreeFrom (one other : Library) (name : List ℕ) : Type 0 where
@@ -86,7 +86,7 @@ mutual
   finds-agrees : (one other : Library) (words : List Word) (i : Imported) → AgreeOnImport one other words → Finds one words i → Finds other words i
   finds-agrees one other words i agree (no_import n) = no_import n
   finds-agrees one other words i agree (absent {name} m e) = absent m (sym (agree name m).here ∙ e)
-  finds-agrees one other words i agree (of_circle {name} m e r) = of_circle m (sym (agree name m).here ∙ e) (reaches-agrees one other name name (agree name m) r)
+  finds-agrees one other words i agree (of_cycle {name} m e r) = of_cycle m (sym (agree name m).here ∙ e) (reaches-agrees one other name name (agree name m) r)
   finds-agrees one other words i agree (found {name} {whole} {statements} {env} m f r k) =
       let mine = agree name m in
       found m (module-agrees one other name whole statements mine.here f) (λ c. r (reaches-agreed one other name name mine c))
@@ -145,17 +145,6 @@ checks-agree one other checks agree h = record {
   have = wanted-statements-agree one other h.names checks agree h.wanted.0 h.have;
 }
 
--- the text gives the same in both
-pub gives-agrees : (one other : Library) (text : List ℕ) (result : Result) → AgreeFrom (with_main one text) (with_main other text) [] → Gives one text result → Gives other text result
-gives-agrees one other text result agree (long_text l) = long_text l
-gives-agrees one other text result agree (long_module {name} {whole} s w l) = long_module s (wanted-agrees (with_main one text) (with_main other text) name whole agree w) l
-gives-agrees one other text result agree (many_modules {names} s w l) = many_modules s (are-wanted-agree (with_main one text) (with_main other text) names agree w) l
-gives-agrees one other text result agree (all_checked {names} {verdicts} {checks} s w few short v h) =
-    let W = with_main one text in
-    let V = with_main other text in
-    all_checked s (all-wanted-agree W V names agree w) few (λ name whole q. short name whole (wanted-agrees V W name whole (agree-back W V [] agree) q)) (verdicts-agree W V [] verdicts agree v)
-    (wanted-statements-agree W V names checks agree w.0 h)
-
 -- ---- finite libraries
 
 -- a library made of modules as another tells them agrees with that on each name among them
@@ -180,16 +169,3 @@ closed-reached library names closed name r = go [] (0, omega arith, refl) name r
     go : (from : List ℕ) → Contains ([] ∷ names) from → (name : List ℕ) → Reaches library from name → Contains names name
     go from c name (at_once l) = closed from name c l
     go from c name (by_way_of {next} l r) = go next (Contains-cons [] names next (closed from next c l)) name r
-
--- where all that the main text reaches in a library is among modules as it tells them, these make a library that agrees with it
-pub listed-main : (modules : List Module) (library : Library) (text : List ℕ) → All (λ (m : Module). m.1 ≡ library m.0) modules
-    → ((name : List ℕ) → Reaches (with_main library text) [] name → Contains (map (λ (m : Module). m.0) modules) name)
-    → AgreeFrom (with_main library text) (with_main (library_of modules) text) []
-listed-main modules library text told listed = agree-main library (library_of modules) text (λ name r. sym (listed-agrees modules library told name (listed name r)))
-
--- so all that it reaches in the library that they make is among them
-pub listed-reached : (modules : List Module) (library : Library) (text : List ℕ) → All (λ (m : Module). m.1 ≡ library m.0) modules
-    → ((name : List ℕ) → Reaches (with_main library text) [] name → Contains (map (λ (m : Module). m.0) modules) name)
-    → (name : List ℕ) → Reaches (with_main (library_of modules) text) [] name → Contains (map (λ (m : Module). m.0) modules) name
-listed-reached modules library text told listed name r =
-    listed name (reaches-agreed (with_main library text) (with_main (library_of modules) text) [] name (listed-main modules library text told listed) r)

@@ -2,7 +2,6 @@
 use Rattle.std.proofs.Common.{◌≡◌, ℕ, suc, true, List, [], ◌∷◌, ◌++◌, length, Option, Some, None, slice_get, refl, sym, ◌∙◌, ap, ap₂, subst}
 use Rattle.std.specs.Prelude.{option_map}
 use Rattle.chyp_base.specs.declared.verdict.Verdict.{Verdict}
-use Rattle.chyp_base.specs.declared.verdict.Verdict.TheVariants.{Accepted}
 use Rattle.chyp_syntax.specs.Heading.{declared_name}
 use Rattle.chyp_syntax.specs.Sentence.{IsSentence}
 use Rattle.chyp_syntax.specs.Statement.{inclusion}
@@ -10,20 +9,20 @@ use Rattle.chyp_syntax.specs.Words.{Word, bytes_at}
 use Rattle.chyp_env.specs.Environment.{Binding, is_bound, Origin}
 use Rattle.chyp_env.specs.Import.{all_passed_on, first_clash}
 use Rattle.chyp_env.specs.Site.{Imported, Site, absent, nothing as alone, on_cycle, there}
-use Rattle.chyp_names.specs.Binding.{Binds, TakesIn, again, anew, imports, nothing}
+use Rattle.chyp_names.specs.Binding.{Binds, again, anew, imports, nothing}
 use Rattle.chyp_names.specs.Elaboration.{prefix_at}
 use Rattle.chyp_verdicts.specs.Judged.{IsJudged}
 use Rattle.chyp_verdicts.proofs.Known.{Known}
-use Rattle.chyp_verdicts.proofs.OneBinding.{imports-nothing}
+use Rattle.chyp_verdicts.proofs.OneBinding.{imports-nothing, inclusion-prefix, takes-in, there-once}
 use Rattle.chyp_verdicts.proofs.OneVerdict.{none-some, some-once}
 use Rattle.chyp_verdicts.proofs.Sites.{some-binds}
 use Rattle.chyp_verdicts.proofs.SomeVerdict.{some-verdict}
-use Rattle.chyp_modules.specs.Declares.{Adds, Declaration, Declares, Offers, at_start, its_name, no_name, none, of_circle, of_module, of_none, offered_by, one_more}
+use Rattle.chyp_modules.specs.Declares.{Adds, Declaration, Declares, Offers, at_start, its_name, no_name, none, of_cycle, of_module, of_none, offered_by, one_more}
 use Rattle.chyp_modules.specs.Import.{Imports}
 use Rattle.chyp_modules.specs.Laws.{AreBound, DeclarationsAreDetermined, NamesComeFromTexts, declarations_of}
 use Rattle.chyp_modules.specs.Library.{IsModule, Library}
 use Rattle.chyp_modules.specs.Modules.{Finds, Makes, Stands, stands}
-use Rattle.chyp_modules.specs.Modules.{at_start as starts, no_import, of_circle as circle_found, of_module as found, of_none as none_found, one_more as makes_more}
+use Rattle.chyp_modules.specs.Modules.{at_start as starts, no_import, of_cycle as cycle_found, of_module as found, of_none as none_found, one_more as makes_more}
 use Rattle.chyp_modules.proofs.Adding.{adds-again, adds-anew, adds-import, adds-nothing, adds-once, clash-found, offered-same}
 use Rattle.chyp_modules.proofs.Exist.{import-state}
 use Rattle.chyp_modules.proofs.Importing.{accepted-fits, fits-accepted}
@@ -39,15 +38,6 @@ data AreOffered (origin : Origin) (words : List Word) (i : Imported) (offered : 
   nothing_at_all : declared_name words ≡ None → ((env : List Binding) → ¬ (i ≡ there env)) → offered ≡ [] → AreOffered origin words i offered
   passed : {word : ℕ} {as_word : Option ℕ} {env : List Binding} → IsSentence words (inclusion word as_word) → i ≡ there env
       → offered ≡ declarations_of (all_passed_on (option_map (bytes_at words) as_word) env) → AreOffered origin words i offered
-
-taken : (i : Imported) (v : Verdict) (env : List Binding) → i ≡ there env → v ≡ Accepted → TakesIn i v
-taken i v env e f = subst (λ x. TakesIn x v) (sym e) (subst (TakesIn (there env)) (sym f) tt)
-
-one-prefix : (word w : ℕ) (as_word p : Option ℕ) → inclusion word as_word ≡ inclusion w p → as_word ≡ p
-one-prefix word w as_word p e = cc
-
-one-there : (env end : List Binding) → there env ≡ there end → env ≡ end
-one-there env end e = cc
 
 -- what the statement binds is what it adds of them
 binds-adds : Known → (s : Site) (number : ℕ) (v : Verdict) (next : List Binding) (offered : List Declaration) → AreOffered (record { home = s.home; number = number }) s.scope.words s.imported offered
@@ -75,7 +65,7 @@ binds-adds known s number v next offered (passed {word} {as_word} {env} t i d) j
     all = all_passed_on (prefix_at s.scope as_word) env
 
     go : (clash : Option (List ℕ)) → first_clash s.scope.env all ≡ clash → Adds (declarations_of s.scope.env) offered (declarations_of s.scope.env)
-    go None e = absurd (o (taken s.imported v env i (fits-accepted known s v word as_word env t i j e)))
+    go None e = absurd (o (takes-in s.imported v env i (fits-accepted known s v word as_word env t i j e)))
     go (Some name) e = subst (λ x. Adds (declarations_of s.scope.env) x (declarations_of s.scope.env)) (sym d) (none (clash-found s.scope.env all name e))
 binds-adds known s number v next offered (passed {word} {as_word} {env} t i d) j (imports {word = w} {as_word = p} {env = end} f u k) =
     subst (λ x. Adds (declarations_of s.scope.env) x (declarations_of next)) (sym same) (adds-import s.scope.env all (accepted-fits known s v w p end u k j f))
@@ -84,10 +74,10 @@ binds-adds known s number v next offered (passed {word} {as_word} {env} t i d) j
     all = all_passed_on (prefix_at s.scope p) end
 
     prefixes : as_word ≡ p
-    prefixes = one-prefix word w as_word p (known.trees s.scope.words (inclusion word as_word) (inclusion w p) t u)
+    prefixes = inclusion-prefix word w as_word p (known.trees s.scope.words (inclusion word as_word) (inclusion w p) t u)
 
     same : offered ≡ declarations_of all
-    same = d ∙ ap₂ (λ x y. declarations_of (all_passed_on (option_map (bytes_at s.scope.words) x) y)) prefixes (one-there env end (sym i ∙ k))
+    same = d ∙ ap₂ (λ x y. declarations_of (all_passed_on (option_map (bytes_at s.scope.words) x) y)) prefixes (there-once env end (sym i ∙ k))
 
 -- ---- what is bound is declared
 
@@ -144,7 +134,7 @@ mutual
       → SomeOffer library origin words i
   finds-declare library known origin words i free (no_import n) = record { offered = []; offers = no_name free n; are = nothing_at_all free (λ env e. absurd cc) refl }
   finds-declare library known origin words i free (none_found m e) = record { offered = []; offers = of_none m e; are = nothing_at_all free (λ env f. absurd cc) refl }
-  finds-declare library known origin words i free (circle_found m e r) = record { offered = []; offers = of_circle m r; are = nothing_at_all free (λ env f. absurd cc) refl }
+  finds-declare library known origin words i free (cycle_found m e r) = record { offered = []; offers = of_cycle m r; are = nothing_at_all free (λ env f. absurd cc) refl }
   finds-declare library known origin words i free (found {name} {statements} {env} m f r k) =
       let prefix : Option (List ℕ) = option_map (bytes_at words) m.as_word in
       record {
@@ -211,9 +201,9 @@ mutual
     finds = none_found m e;
     are = nothing_at_all (import-nameless words name m) (λ env f. absurd cc) refl;
   }
-  offers-found library known origin words offered (of_circle {name} m r) =
+  offers-found library known origin words offered (of_cycle {name} m r) =
       let at = begins library name name r in
-      record { imported = on_cycle; finds = circle_found m at.1 r; are = nothing_at_all (import-nameless words name m) (λ env f. absurd cc) refl }
+      record { imported = on_cycle; finds = cycle_found m at.1 r; are = nothing_at_all (import-nameless words name m) (λ env f. absurd cc) refl }
   offers-found library known origin words offered (of_module {name} {statements} {declarations} m f r d) =
       let b = declared-bound library known name (length statements) declarations d in
       let prefix : Option (List ℕ) = option_map (bytes_at words) m.as_word in

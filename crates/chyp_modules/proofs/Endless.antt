@@ -1,4 +1,4 @@
--- Where modules import one another without end and in no circle, none of them makes an environment.
+-- Where modules import one another without end and in no cycle, none of them makes an environment.
 use Rattle.std.proofs.Common.{◌≡◌, ℕ, suc, ◌<◌, ◌≤◌, List, length, slice_get, ◌⊎◌, inl, inr, refl, sym, ◌∙◌, ap, subst, arith}
 use Rattle.std.proofs.lemmas.Bool.{cases_lt}
 use Rattle.chyp_syntax.specs.Words.{Word}
@@ -7,7 +7,7 @@ use Rattle.chyp_env.specs.Site.{Imported, Site}
 use Rattle.chyp_verdicts.proofs.OneVerdict.{some-once, none-some, slice_get-read}
 use Rattle.chyp_modules.specs.Library.{Library, IsModule}
 use Rattle.chyp_modules.specs.Import.{Imports, LeadsTo, Reaches}
-use Rattle.chyp_modules.specs.Modules.{Makes, at_start, one_more, Stands, stands, Finds, no_import, of_none, of_circle, of_module, HasEnvironment}
+use Rattle.chyp_modules.specs.Modules.{Makes, at_start, one_more, Stands, stands, Finds, no_import, of_none, of_cycle, of_module, HasEnvironment}
 use Rattle.chyp_verdicts.proofs.Known.{Known}
 use Rattle.chyp_modules.proofs.Once.{imports-unique, imports-not-nothing, module-unique}
 
@@ -43,7 +43,7 @@ mutual
   finds-never library known chain e tokens i (no_import none) k is = imports-not-nothing tokens (chain (suc k)) none is
   finds-never library known chain e tokens i (of_none {name} m x) k is =
       none-some (library (chain (suc k))) (e.leads (suc k)).text (ap library (imports-unique known tokens (chain (suc k)) name is m) ∙ x) (e.leads (suc k)).is_module.there
-  finds-never library known chain e tokens i (of_circle {name} m x r) k is =
+  finds-never library known chain e tokens i (of_cycle {name} m x r) k is =
       e.straight (suc k) (subst (λ y. Reaches library y y) (sym (imports-unique known tokens (chain (suc k)) name is m)) r)
   finds-never library known chain e tokens i (of_module {name} {whole} {statements} {env} m x r b) k is =
       let names = sym (imports-unique known tokens (chain (suc k)) name is m) in

@@ -8,14 +8,14 @@ use Rattle.chyp_env.specs.Site.{Imported, nothing, absent, on_cycle, there, Site
 use Rattle.chyp_verdicts.proofs.SomeVerdict.{some-verdict}
 use Rattle.chyp_modules.specs.Library.{Library, IsModule}
 use Rattle.chyp_modules.specs.Import.{ImportsNothing, LeadsTo, Reaches, at_once}
-use Rattle.chyp_modules.specs.Modules.{Makes, at_start, one_more, Stands, stands, Finds, no_import, of_none, of_circle, of_module as found}
+use Rattle.chyp_modules.specs.Modules.{Makes, at_start, one_more, Stands, stands, Finds, no_import, of_none, of_cycle, of_module as found}
 use Rattle.chyp_modules.specs.Laws.{ReachesOnly}
 use Rattle.chyp_verdicts.proofs.Known.{Known}
 use Rattle.chyp_verdicts.proofs.Sites.{some-binds}
 use Rattle.chyp_env.specs.Site.{IsImportState, no_import as alone, an_import}
-use Rattle.chyp_verdicts.proofs.Texts.{get-there}
 use Rattle.chyp_modules.proofs.Reaching.{SomeImport, import-or-not, reaches-only-next, reaches-or-not, reaches-without, statements-there, without, without-shorter}
 use Rattle.chyp_modules.proofs.Senses.{makes-sound}
+use Rattle.chyp_term.proofs.Permuted.{found as get-there}
 
 -- an environment for which this holds
 pub record SomeEnv (P : List Binding → Type 0) : Type 0 where
@@ -29,7 +29,7 @@ import-state library s f = go s.scope.words s.imported refl refl f
     go : (words : List Word) (i : Imported) → words ≡ s.scope.words → i ≡ s.imported → Finds library words i → IsImportState s
     go words i w e (no_import m) = alone (sym e)
     go words i w e (of_none m y) = an_import (subst (λ t. IsSentence t (inclusion m.word m.as_word)) w m.is_sentence)
-    go words i w e (of_circle m y r) = an_import (subst (λ t. IsSentence t (inclusion m.word m.as_word)) w m.is_sentence)
+    go words i w e (of_cycle m y r) = an_import (subst (λ t. IsSentence t (inclusion m.word m.as_word)) w m.is_sentence)
     go words i w e (found m y r k) = an_import (subst (λ t. IsSentence t (inclusion m.word m.as_word)) w m.is_sentence)
 
 -- ---- modules
@@ -57,9 +57,9 @@ some-find library known name text ss m below decided k tokens at = go (import-or
         leads : LeadsTo library name i.name
         leads = record { text = text; statements = ss; is_module = m; number = k; words = tokens; here = at; imports = i.imports }
 
-        circle : (whole : List ℕ) → library i.name ≡ Some whole → Reaches library i.name i.name ⊎ ¬ Reaches library i.name i.name → SomeFind library tokens
-        circle whole e (inl r) = record { imported = on_cycle; finds = of_circle i.imports e r }
-        circle whole e (inr r) =
+        cycle : (whole : List ℕ) → library i.name ≡ Some whole → Reaches library i.name i.name ⊎ ¬ Reaches library i.name i.name → SomeFind library tokens
+        cycle whole e (inl r) = record { imported = on_cycle; finds = of_cycle i.imports e r }
+        cycle whole e (inr r) =
             let rs = statements-there known whole in
             let other : IsModule library i.name whole rs.0 = record { there = e; are = rs.1 } in
             let made = below i.name whole rs.0 leads other r in
@@ -67,7 +67,7 @@ some-find library known name text ss m below decided k tokens at = go (import-or
 
         texts : (o : Option (List ℕ)) → library i.name ≡ o → SomeFind library tokens
         texts None e = record { imported = absent; finds = of_none i.imports e }
-        texts (Some whole) e = circle whole e (decided i.name leads)
+        texts (Some whole) e = cycle whole e (decided i.name leads)
 
 -- a statement of a module has its site, where the statements before it make an environment
 record SomeSite (library : Library) (name : List ℕ) (k : ℕ) : Type 0 where

@@ -14,12 +14,12 @@ use Rattle.chyp_verdicts.proofs.Known.{Known}
 use Rattle.chyp_modules.specs.Explained.{StandsBefore, VerdictsAreExplained}
 use Rattle.chyp_modules.specs.Import.{Imports, LeadsTo, Reaches, at_once, by_way_of}
 use Rattle.chyp_modules.specs.Library.{Library}
-use Rattle.chyp_modules.specs.Modules.{Finds, Makes, Stands, at_start, no_import, of_circle, of_module as found, of_none, one_more, standing, stands}
+use Rattle.chyp_modules.specs.Modules.{Finds, Makes, Stands, at_start, no_import, of_cycle, of_module as found, of_none, one_more, standing, stands}
 use Rattle.chyp_modules.proofs.Derived.{home-is, stands-derived}
 use Rattle.chyp_modules.proofs.Once.{stands-unique}
 use Rattle.chyp_modules.proofs.Senses.{stands-sound}
 
-reaches-join : (library : Library) (a b c : List ℕ) → Reaches library a b → Reaches library b c → Reaches library a c
+pub reaches-join : (library : Library) (a b c : List ℕ) → Reaches library a b → Reaches library b c → Reaches library a c
 reaches-join library a b c (at_once l) m = by_way_of l m
 reaches-join library a b c (by_way_of {next} l r) m = by_way_of l (reaches-join library next b c r m)
 
@@ -85,7 +85,7 @@ mutual
       → AreImportsBelow library name i
   finds-below library name words i leads (no_import n) = tt
   finds-below library name words i leads (of_none m e) = tt
-  finds-below library name words i leads (of_circle m e r) = tt
+  finds-below library name words i leads (of_cycle m e r) = tt
   finds-below library name words i leads (found {name = other} {statements} {env} m f straight k) =
       λ j d h. below library name other (length statements) (slice_index_or env j d) (leads other m) straight (makes-from library other (length statements) env k j d h)
 

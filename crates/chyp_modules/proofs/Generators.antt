@@ -13,7 +13,7 @@ use Rattle.chyp_names.proofs.Closing.{sense-bound}
 use Rattle.chyp_verdicts.specs.Judged.{IsJudged}
 use Rattle.chyp_verdicts.proofs.Known.{Known}
 use Rattle.chyp_modules.specs.Library.{Library}
-use Rattle.chyp_modules.specs.Modules.{Makes, at_start, one_more, Stands, stands, Finds, no_import, of_none, of_circle, of_module as found}
+use Rattle.chyp_modules.specs.Modules.{Makes, at_start, one_more, Stands, stands, Finds, no_import, of_none, of_cycle, of_module as found}
 use Rattle.chyp_modules.specs.Laws.{GeneratorsAreBound}
 use Rattle.chyp_modules.proofs.Importing.{accepted-fits}
 use Rattle.chyp_modules.proofs.Meanings.{AreMeant, IsMeantImport, meant-same, stands-meant}
@@ -51,7 +51,7 @@ mutual
   finds-bound : (library : Library) → Known → (tokens : List Word) (i : Imported) → Finds library tokens i → IsBoundImport i
   finds-bound library known tokens i (no_import n) = tt
   finds-bound library known tokens i (of_none m e) = tt
-  finds-bound library known tokens i (of_circle m e r) = tt
+  finds-bound library known tokens i (of_cycle m e r) = tt
   finds-bound library known tokens i (found {name} {statements} {env} m f r k) = makes-bound library known name (length statements) env k
 
 -- each generator of a term that a name stands for has a binding of its own in the same environment

@@ -11,7 +11,7 @@ use Rattle.chyp_names.specs.Elaboration.{prefix_at}
 use Rattle.chyp_modules.specs.Library.{Library}
 use Rattle.chyp_verdicts.specs.Judged.{IsJudged}
 use Rattle.chyp_verdicts.specs.Standing.{Means}
-use Rattle.chyp_modules.specs.Modules.{Makes, at_start, one_more, Stands, stands, Finds, no_import, of_none, of_circle, of_module as found, standing}
+use Rattle.chyp_modules.specs.Modules.{Makes, at_start, one_more, Stands, stands, Finds, no_import, of_none, of_cycle, of_module as found, standing}
 use Rattle.chyp_modules.specs.Laws.{OriginsDetermineSenses}
 use Rattle.chyp_env.proofs.Bindings.{import-all}
 use Rattle.chyp_modules.proofs.Derived.{home-is}
@@ -53,7 +53,7 @@ mutual
   finds-meant : (library : Library) (tokens : List Word) (i : Imported) → Finds library tokens i → IsMeantImport library i
   finds-meant library tokens i (no_import n) = tt
   finds-meant library tokens i (of_none m e) = tt
-  finds-meant library tokens i (of_circle m e r) = tt
+  finds-meant library tokens i (of_cycle m e r) = tt
   finds-meant library tokens i (found {name} {statements} {env} m f r k) = makes-meant library name (length statements) env k
 
 -- two bindings of one origin stand for one thing

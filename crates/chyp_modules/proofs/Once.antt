@@ -13,7 +13,7 @@ use Rattle.chyp_modules.specs.Library.{Library, AreStatements, IsModule}
 use Rattle.chyp_modules.specs.Import.{Imports, ImportsNothing, Reaches}
 use Rattle.chyp_verdicts.specs.Judged.{IsJudged}
 use Rattle.chyp_verdicts.specs.Standing.{Means}
-use Rattle.chyp_modules.specs.Modules.{Makes, at_start, one_more, Stands, stands, Finds, no_import, of_none, of_circle, of_module as found, standing}
+use Rattle.chyp_modules.specs.Modules.{Makes, at_start, one_more, Stands, stands, Finds, no_import, of_none, of_cycle, of_module as found, standing}
 use Rattle.chyp_verdicts.proofs.Known.{Known}
 
 -- ---- texts
@@ -31,7 +31,7 @@ module-unique known library name text other ss rs m n =
     (texts, statements-unique known text ss rs m.are (subst (λ t. AreStatements t rs) (sym texts) n.are))
 
 -- an import names one module
-inclusion-word : (word w : ℕ) (as_word a : Option ℕ) → inclusion word as_word ≡ inclusion w a → word ≡ w
+pub inclusion-word : (word w : ℕ) (as_word a : Option ℕ) → inclusion word as_word ≡ inclusion w a → word ≡ w
 inclusion-word word w as_word a e = cc
 
 pub imports-unique : Known → (tokens : List Word) (name other : List ℕ) → Imports tokens name → Imports tokens other → name ≡ other
@@ -77,24 +77,24 @@ mutual
       → Finds library tokens j → i ≡ j
   finds-unique library known tokens i j (no_import n) (no_import m) = refl
   finds-unique library known tokens i j (no_import n) (of_none {name} m e) = absurd (imports-not-nothing tokens name n m)
-  finds-unique library known tokens i j (no_import n) (of_circle {name} m e r) = absurd (imports-not-nothing tokens name n m)
+  finds-unique library known tokens i j (no_import n) (of_cycle {name} m e r) = absurd (imports-not-nothing tokens name n m)
   finds-unique library known tokens i j (no_import n) (found {name} m e r k) = absurd (imports-not-nothing tokens name n m)
   finds-unique library known tokens i j (of_none {name} m e) (no_import n) = absurd (imports-not-nothing tokens name n m)
   finds-unique library known tokens i j (of_none m e) (of_none n f) = refl
-  finds-unique library known tokens i j (of_none {name} m e) (of_circle {name = other} {whole} n f r) =
+  finds-unique library known tokens i j (of_none {name} m e) (of_cycle {name = other} {whole} n f r) =
       absurd (none-some _ whole (ap library (sym (imports-unique known tokens name other m n)) ∙ e) f)
   finds-unique library known tokens i j (of_none {name} m e) (found {name = other} {whole} n f r k) =
       absurd (none-some _ whole (ap library (sym (imports-unique known tokens name other m n)) ∙ e) f.there)
-  finds-unique library known tokens i j (of_circle {name} m e r) (no_import n) = absurd (imports-not-nothing tokens name n m)
-  finds-unique library known tokens i j (of_circle {name = other} {whole} n f r) (of_none {name} m e) =
+  finds-unique library known tokens i j (of_cycle {name} m e r) (no_import n) = absurd (imports-not-nothing tokens name n m)
+  finds-unique library known tokens i j (of_cycle {name = other} {whole} n f r) (of_none {name} m e) =
       absurd (none-some _ whole (ap library (sym (imports-unique known tokens name other m n)) ∙ e) f)
-  finds-unique library known tokens i j (of_circle m e r) (of_circle n f q) = refl
-  finds-unique library known tokens i j (of_circle {name} m e r) (found {name = other} n f q k) =
+  finds-unique library known tokens i j (of_cycle m e r) (of_cycle n f q) = refl
+  finds-unique library known tokens i j (of_cycle {name} m e r) (found {name = other} n f q k) =
       absurd (q (subst (λ x. Reaches library x x) (imports-unique known tokens name other m n) r))
   finds-unique library known tokens i j (found {name} m f r k) (no_import n) = absurd (imports-not-nothing tokens name n m)
   finds-unique library known tokens i j (found {name = other} {whole} n f r k) (of_none {name} m e) =
       absurd (none-some _ whole (ap library (sym (imports-unique known tokens name other m n)) ∙ e) f.there)
-  finds-unique library known tokens i j (found {name = other} n f q k) (of_circle {name} m e r) =
+  finds-unique library known tokens i j (found {name = other} n f q k) (of_cycle {name} m e r) =
       absurd (q (subst (λ x. Reaches library x x) (imports-unique known tokens name other m n) r))
   finds-unique library known tokens i j (found {name} {whole} {statements} {env} m f r k) (found {name = other} {whole = w} {statements = rs} {env = e} n g q l) =
       let names = (imports-unique known tokens name other m n) in

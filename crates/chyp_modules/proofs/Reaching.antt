@@ -6,7 +6,7 @@ use Rattle.std.specs.Str.{bytes_eq}
 use Rattle.std.proofs.lemmas.Bool.{false≢true}
 use Rattle.chyp_syntax.specs.Failing.{IsSentenceOrFails}
 use Rattle.chyp_syntax.specs.Sentence.{IsSentence}
-use Rattle.chyp_syntax.specs.Statement.{StatementTree, generator, definition, rule, rewrite, inclusion, showing}
+use Rattle.chyp_syntax.specs.Statement.{StatementTree, generator, abbreviation, rule, rewrite, inclusion, showing}
 use Rattle.chyp_verdicts.specs.Texts.{statements_of}
 use Rattle.chyp_verdicts.proofs.OneVerdict.{none-some}
 use Rattle.chyp_syntax.specs.Words.{Word, bytes_at}
@@ -41,7 +41,7 @@ import-or-not known tokens = go (known.sentences tokens)
     of_tree : (tree : StatementTree) → IsSentence tokens tree → SomeImport tokens ⊎ ImportsNothing tokens
     of_tree (inclusion word a) t = inl (record { name = bytes_at tokens word; imports = record { word = word; as_word = a; is_sentence = t; named = refl } })
     of_tree (generator name dom cod) t = inr (other (generator name dom cod) t (λ w a e. absurd cc))
-    of_tree (definition name tree) t = inr (other (definition name tree) t (λ w a e. absurd cc))
+    of_tree (abbreviation name tree) t = inr (other (abbreviation name tree) t (λ w a e. absurd cc))
     of_tree (rule name left equals right) t = inr (other (rule name left equals right) t (λ w a e. absurd cc))
     of_tree (rewrite name first steps) t = inr (other (rewrite name first steps) t (λ w a e. absurd cc))
     of_tree (showing name) t = inr (other (showing name) t (λ w a e. absurd cc))

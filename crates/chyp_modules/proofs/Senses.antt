@@ -7,7 +7,7 @@ use Rattle.chyp_env.specs.Site.{Imported, Site}
 use Rattle.chyp_env.specs.Sound.{IsSound}
 use Rattle.chyp_verdicts.proofs.Sound.{IsSoundImport, binds-sound}
 use Rattle.chyp_modules.specs.Library.{Library}
-use Rattle.chyp_modules.specs.Modules.{Makes, at_start, one_more, Stands, stands, Finds, no_import, of_none, of_circle, of_module as found}
+use Rattle.chyp_modules.specs.Modules.{Makes, at_start, one_more, Stands, stands, Finds, no_import, of_none, of_cycle, of_module as found}
 use Rattle.chyp_verdicts.proofs.Known.{Known}
 
 mutual
@@ -24,5 +24,5 @@ mutual
   pub finds-sound : (library : Library) → Known → (tokens : List Word) (i : Imported) → Finds library tokens i → IsSoundImport i
   finds-sound library known tokens i (no_import n) = tt
   finds-sound library known tokens i (of_none m e) = tt
-  finds-sound library known tokens i (of_circle m e r) = tt
+  finds-sound library known tokens i (of_cycle m e r) = tt
   finds-sound library known tokens i (found {name} {statements} {env} m f r k) = makes-sound library known name (length statements) env k

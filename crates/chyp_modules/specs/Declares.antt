@@ -56,7 +56,7 @@ mutual
     no_name : {origin : Origin} {words : List Word} → declared_name words ≡ None → ImportsNothing words → Offers library origin words []
     of_none : {origin : Origin} {words : List Word} {name : List ℕ} → Imports words name → library name ≡ None
         → Offers library origin words []
-    of_circle : {origin : Origin} {words : List Word} {name : List ℕ} → Imports words name → Reaches library name name
+    of_cycle : {origin : Origin} {words : List Word} {name : List ℕ} → Imports words name → Reaches library name name
         → Offers library origin words []
     of_module : {origin : Origin} {words : List Word} {name text : List ℕ} {statements : List (List Word)} {declarations : List Declaration}
         → (is : Imports words name)

@@ -33,7 +33,7 @@ pub record HasOneListOfVerdicts (library : Library) (name : List ℕ) : Type 0 w
   pub are : AreVerdicts library name verdicts
   pub only : (others : List Verdict) → AreVerdicts library name others → others ≡ verdicts
 
--- so it is for each module that is there and reaches finitely many, in whatever circles others import one another
+-- so it is for each module that is there and reaches finitely many, in whatever cycles others import one another
 abbrev pub ModulesAreDetermined : Type 0
 ModulesAreDetermined = (library : Library) (name text : List ℕ) → library name ≡ Some text → ReachesFinitelyMany library name
     → HasOneEnvironment library name × HasOneListOfVerdicts library name

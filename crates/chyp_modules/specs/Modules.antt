@@ -31,7 +31,7 @@ mutual
     no_import : {words : List Word} → ImportsNothing words → Finds library words nothing
     of_none : {name : List ℕ} {words : List Word} → Imports words name → library name ≡ None
         → Finds library words absent
-    of_circle : {name whole : List ℕ} {words : List Word} → Imports words name → library name ≡ Some whole
+    of_cycle : {name whole : List ℕ} {words : List Word} → Imports words name → library name ≡ Some whole
         → Reaches library name name
         → Finds library words on_cycle
     of_module : {name whole : List ℕ} {words : List Word} {statements : List (List Word)} {env : List Binding}

@@ -1,5 +1,5 @@
 //! The modules of a library: their environments, their verdicts and what these say, the names that their
-//! texts declare, and the rules that their laws rest on.
+//! texts declare, and the rules that their equations rest on.
 //!
 //! These are law functions, whose bodies only call those of the crates below.
 #![tactic(auto)]

@@ -14,7 +14,7 @@ use Rattle.chyp_term.specs.Derivation.{IsEquation}
 use Rattle.chyp_term.specs.Limits.{IsWithinLimits}
 use Rattle.chyp_term.specs.Morphism.{Morphism, dom, cod, IsTyped}
 use Rattle.chyp_env.specs.Shape.{IsShape}
-use Rattle.chyp_env.specs.Scope.{Scope, meaning_at}
+use Rattle.chyp_env.specs.Scope.{Scope, term_at}
 use Rattle.chyp_env.specs.Typing.{Test, agrees, Holds, AllHold, FailsFirst, tests_of}
 use Rattle.chyp_env.proofs.Failing.{fails-front, fails-behind, fails-here}
 use Rattle.chyp_env.proofs.Holding.{hold-both}
@@ -30,24 +30,24 @@ on_ok P Q f (Ok x) h = f h
 on_ok P Q f (Err e) h = tt
 
 -- a term whose own test fails
-pub fails_inside : (scope : Scope) (first : Morphism) (equals : ℕ) (tree : TermTree) (token : ℕ) → FailsFirst (tests_of (meaning_at scope) tree) token
+pub fails_inside : (scope : Scope) (first : Morphism) (equals : ℕ) (tree : TermTree) (token : ℕ) → FailsFirst (tests_of (term_at scope) tree) token
     → Disagrees scope first equals tree token
-fails_inside scope first equals tree token fails = fails-front (tests_of (meaning_at scope) tree) ((equals, agrees first (expansion_at scope tree)) ∷ []) token fails
+fails_inside scope first equals tree token fails = fails-front (tests_of (term_at scope) tree) ((equals, agrees first (expansion_at scope tree)) ∷ []) token fails
 
 -- a term of another type
-pub fails_at_equals : (scope : Scope) (shape other : Shape) (first : Morphism) (equals : ℕ) (tree : TermTree) → AllHold (tests_of (meaning_at scope) tree)
+pub fails_at_equals : (scope : Scope) (shape other : Shape) (first : Morphism) (equals : ℕ) (tree : TermTree) → AllHold (tests_of (term_at scope) tree)
     → IsShape other (expansion_at scope tree) → IsShape shape first → ((other.dom ≡ shape.dom) × (other.cod ≡ shape.cod) → ⊥) → Disagrees scope first equals tree equals
 fails_at_equals scope shape other first equals tree hold is its apart =
-    fails-behind (tests_of (meaning_at scope) tree) ((equals, agrees first (expansion_at scope tree)) ∷ []) equals hold
+    fails-behind (tests_of (term_at scope) tree) ((equals, agrees first (expansion_at scope tree)) ∷ []) equals hold
     (fails-here equals (agrees first (expansion_at scope tree)) [] (λ same. apart (is.dom ∙ sym same.0 ∙ sym its.dom, is.cod ∙ sym same.1 ∙ sym its.cod)))
 
 -- a term of the same type
-pub agrees_there : (scope : Scope) (shape other : Shape) (first : Morphism) (equals : ℕ) (tree : TermTree) → AllHold (tests_of (meaning_at scope) tree)
+pub agrees_there : (scope : Scope) (shape other : Shape) (first : Morphism) (equals : ℕ) (tree : TermTree) → AllHold (tests_of (term_at scope) tree)
     → IsShape other (expansion_at scope tree) → IsShape shape first → (other.dom ≡ shape.dom) × (other.cod ≡ shape.cod) → Agrees scope first equals tree
 agrees_there scope shape other first equals tree hold is its same =
     let doms : dom first ≡ dom (expansion_at scope tree) = sym its.dom ∙ sym same.0 ∙ is.dom in
     let cods : cod first ≡ cod (expansion_at scope tree) = sym its.cod ∙ sym same.1 ∙ is.cod in (
-      hold-both (tests_of (meaning_at scope) tree) ((equals, agrees first (expansion_at scope tree)) ∷ []) hold
+      hold-both (tests_of (term_at scope) tree) ((equals, agrees first (expansion_at scope tree)) ∷ []) hold
           (All-cons (λ (test : Test). Holds test.1) (equals, agrees first (expansion_at scope tree)) [] (doms, cods) (All-nil (λ (test : Test). Holds test.1))),
       record { left = its.typed; right = is.typed; doms = doms; cods = cods },
     )
@@ -57,12 +57,12 @@ module _ (scope : Scope) (first : Morphism) (step : StepAst) (goal : TermAst) (t
   pub one_agrees : Agrees scope first step.equals (tree_of goal) → StepsAgree scope first (step ∷ [])
   one_agrees h =
       rw there (
-        subst AllHold (sym (append-nil (tests_of_other (meaning_at scope) first step.equals (tree_of goal)))) h.0,
+        subst AllHold (sym (append-nil (tests_of_other (term_at scope) first step.equals (tree_of goal)))) h.0,
         All-cons (IsEquation first) (expansion_at scope (tree_of goal)) [] h.1 (All-nil (IsEquation first)),
       )
 
   pub one_disagrees : (token : ℕ) → Disagrees scope first step.equals (tree_of goal) token → StepsDisagree scope first (step ∷ []) token
-  one_disagrees token h = rw there (fails-front (tests_of_other (meaning_at scope) first step.equals (tree_of goal)) [] token h)
+  one_disagrees token h = rw there (fails-front (tests_of_other (term_at scope) first step.equals (tree_of goal)) [] token h)
 
   pub one_term : (terms : List Morphism) → terms ++ expansion_at scope (tree_of goal) ∷ [] ≡ terms ++ goal_terms scope (step ∷ [])
   one_term terms = rw there refl
@@ -84,13 +84,13 @@ tests_of_steps-append meaning first (x ∷ xs) ys = go x.goal refl (tests_of_ste
 
 module _ (scope : Scope) (first : Morphism) where
   split : (steps others : List StepAst)
-      → tests_of_steps (meaning_at scope) first (map step_of (steps ++ others)) ≡ tests_of_steps (meaning_at scope) first (map step_of steps) ++ tests_of_steps (meaning_at scope) first
+      → tests_of_steps (term_at scope) first (map step_of (steps ++ others)) ≡ tests_of_steps (term_at scope) first (map step_of steps) ++ tests_of_steps (term_at scope) first
       (map step_of others)
-  split steps others = ap (tests_of_steps (meaning_at scope) first) (map-append step_of steps others) ∙ tests_of_steps-append (meaning_at scope) first (map step_of steps) (map step_of others)
+  split steps others = ap (tests_of_steps (term_at scope) first) (map-append step_of steps others) ∙ tests_of_steps-append (term_at scope) first (map step_of steps) (map step_of others)
 
   both_agree : (steps others : List StepAst) → StepsAgree scope first steps → StepsAgree scope first others → StepsAgree scope first (steps ++ others)
   both_agree steps others f g = (
-    subst AllHold (sym (split steps others)) (hold-both (tests_of_steps (meaning_at scope) first (map step_of steps)) (tests_of_steps (meaning_at scope) first (map step_of others)) f.0 g.0),
+    subst AllHold (sym (split steps others)) (hold-both (tests_of_steps (term_at scope) first (map step_of steps)) (tests_of_steps (term_at scope) first (map step_of others)) f.0 g.0),
     subst (All (IsEquation first)) (sym (goal_terms-append scope steps others)) (All-append (IsEquation first) (goal_terms scope steps) (goal_terms scope others) f.1 g.1),
   )
 
@@ -105,9 +105,9 @@ module _ (scope : Scope) (first : Morphism) where
       → StepsAgree scope first (take k steps) → StepsDisagree scope first (step ∷ []) token → StepsDisagree scope first steps token
   agree_fails steps k step token within is so_far fails =
       let front : List StepAst = take k steps ++ step ∷ [] in
-      let there = fails-behind (tests_of_steps (meaning_at scope) first (map step_of (take k steps))) (tests_of_steps (meaning_at scope) first (map step_of (step ∷ []))) token so_far.0 fails in
-      subst (λ ts. FailsFirst ts token) (sym (split front (drop (k + 1) steps)) ∙ ap (λ xs. tests_of_steps (meaning_at scope) first (map step_of xs)) (take_whole steps k step within is))
-      (fails-front (tests_of_steps (meaning_at scope) first (map step_of front)) (tests_of_steps (meaning_at scope) first (map step_of (drop (k + 1) steps))) token
+      let there = fails-behind (tests_of_steps (term_at scope) first (map step_of (take k steps))) (tests_of_steps (term_at scope) first (map step_of (step ∷ []))) token so_far.0 fails in
+      subst (λ ts. FailsFirst ts token) (sym (split front (drop (k + 1) steps)) ∙ ap (λ xs. tests_of_steps (term_at scope) first (map step_of xs)) (take_whole steps k step within is))
+      (fails-front (tests_of_steps (term_at scope) first (map step_of front)) (tests_of_steps (term_at scope) first (map step_of (drop (k + 1) steps))) token
       (subst (λ ts. FailsFirst ts token) (sym (split (take k steps) (step ∷ []))) there))
 
 -- a first term, and others that are equations with it, are typed alike
@@ -121,22 +121,22 @@ alike first others typed all =
     λ k d within k' d' within'. between first _ _ (each k d within) (each k' d' within')
 
 -- the tests of a `let` are those of its tree
-pub let_holds : (scope : Scope) (ast : Ast) (name : ℕ) (tree : TermAst) → ast ≡ LetDecl name tree → AllHold (tests_of (meaning_at scope) (tree_of tree))
+pub let_holds : (scope : Scope) (ast : Ast) (name : ℕ) (tree : TermAst) → ast ≡ LetDecl name tree → AllHold (tests_of (term_at scope) (tree_of tree))
     → AllHold (tests_at scope (statement_of ast))
 let_holds scope ast name tree is hold =
-    subst (λ a. AllHold (tests_at scope (statement_of a))) (sym is) (subst AllHold (sym (append-nil (tests_of (meaning_at scope) (tree_of tree)))) hold)
+    subst (λ a. AllHold (tests_at scope (statement_of a))) (sym is) (subst AllHold (sym (append-nil (tests_of (term_at scope) (tree_of tree)))) hold)
 
 -- the terms of a rule
 module _ (scope : Scope) (ast : Ast) (name : ℕ) (left : TermAst) (equals : ℕ) (right : TermAst) (is : ast ≡ RuleDecl name left equals right) where
-  rule_tests : tests_of (meaning_at scope) (tree_of left) ++ tests_of_other (meaning_at scope) (expansion_at scope (tree_of left)) equals (tree_of right) ≡ tests_at scope (statement_of ast)
+  rule_tests : tests_of (term_at scope) (tree_of left) ++ tests_of_other (term_at scope) (expansion_at scope (tree_of left)) equals (tree_of right) ≡ tests_at scope (statement_of ast)
   rule_tests =
-      ap (λ ts. tests_of (meaning_at scope) (tree_of left) ++ ts) (sym (append-nil (tests_of_other (meaning_at scope) (expansion_at scope (tree_of left)) equals (tree_of right))))
+      ap (λ ts. tests_of (term_at scope) (tree_of left) ++ ts) (sym (append-nil (tests_of_other (term_at scope) (expansion_at scope (tree_of left)) equals (tree_of right))))
       ∙ ap (λ a. tests_at scope (statement_of a)) (sym is)
 
-  pub rule_holds : AllHold (tests_of (meaning_at scope) (tree_of left)) → Agrees scope (expansion_at scope (tree_of left)) equals (tree_of right)
+  pub rule_holds : AllHold (tests_of (term_at scope) (tree_of left)) → Agrees scope (expansion_at scope (tree_of left)) equals (tree_of right)
       → AllHold (tests_at scope (statement_of ast))
   rule_holds hold h =
-      subst AllHold rule_tests (hold-both (tests_of (meaning_at scope) (tree_of left)) (tests_of_other (meaning_at scope) (expansion_at scope (tree_of left)) equals (tree_of right)) hold h.0)
+      subst AllHold rule_tests (hold-both (tests_of (term_at scope) (tree_of left)) (tests_of_other (term_at scope) (expansion_at scope (tree_of left)) equals (tree_of right)) hold h.0)
 
   pub rule_alike : (home : List ℕ) → IsTyped (expansion_at scope (tree_of left)) → Agrees scope (expansion_at scope (tree_of left)) equals (tree_of right)
       → AreTypedAlike (terms_in home scope (statement_of ast))
@@ -146,16 +146,16 @@ module _ (scope : Scope) (ast : Ast) (name : ℕ) (left : TermAst) (equals : ℕ
       (alike (expansion_at scope (tree_of left)) (expansion_at scope (tree_of right) ∷ []) typed
       (All-cons (IsEquation (expansion_at scope (tree_of left))) (expansion_at scope (tree_of right)) [] other (All-nil (IsEquation (expansion_at scope (tree_of left))))))
 
-  pub rule_fails_left : (token : ℕ) → FailsFirst (tests_of (meaning_at scope) (tree_of left)) token → FailsFirst (tests_at scope (statement_of ast)) token
+  pub rule_fails_left : (token : ℕ) → FailsFirst (tests_of (term_at scope) (tree_of left)) token → FailsFirst (tests_at scope (statement_of ast)) token
   rule_fails_left token fails =
       subst (λ ts. FailsFirst ts token) rule_tests
-      (fails-front (tests_of (meaning_at scope) (tree_of left)) (tests_of_other (meaning_at scope) (expansion_at scope (tree_of left)) equals (tree_of right)) token fails)
+      (fails-front (tests_of (term_at scope) (tree_of left)) (tests_of_other (term_at scope) (expansion_at scope (tree_of left)) equals (tree_of right)) token fails)
 
-  pub rule_fails_right : (token : ℕ) → AllHold (tests_of (meaning_at scope) (tree_of left)) → Disagrees scope (expansion_at scope (tree_of left)) equals (tree_of right) token
+  pub rule_fails_right : (token : ℕ) → AllHold (tests_of (term_at scope) (tree_of left)) → Disagrees scope (expansion_at scope (tree_of left)) equals (tree_of right) token
       → FailsFirst (tests_at scope (statement_of ast)) token
   rule_fails_right token hold fails =
       subst (λ ts. FailsFirst ts token) rule_tests
-      (fails-behind (tests_of (meaning_at scope) (tree_of left)) (tests_of_other (meaning_at scope) (expansion_at scope (tree_of left)) equals (tree_of right)) token hold fails)
+      (fails-behind (tests_of (term_at scope) (tree_of left)) (tests_of_other (term_at scope) (expansion_at scope (tree_of left)) equals (tree_of right)) token hold fails)
 
 -- the terms of a rewrite
 module _ (scope : Scope) (ast : Ast) (name : ℕ) (first : TermAst) (steps items : List StepAst) (is : ast ≡ RewriteDecl name first steps) (same : items ≡ steps) where
@@ -163,21 +163,21 @@ module _ (scope : Scope) (ast : Ast) (name : ℕ) (first : TermAst) (steps items
   start = expansion_at scope (tree_of first)
 
   abbrev behind : List Test
-  behind = tests_of_steps (meaning_at scope) start (map step_of items)
+  behind = tests_of_steps (term_at scope) start (map step_of items)
 
-  rewrite_tests : tests_of (meaning_at scope) (tree_of first) ++ behind ≡ tests_at scope (statement_of ast)
-  rewrite_tests = ap (λ xs. tests_of (meaning_at scope) (tree_of first) ++ tests_of_steps (meaning_at scope) start (map step_of xs)) same ∙ ap (λ a. tests_at scope (statement_of a)) (sym is)
+  rewrite_tests : tests_of (term_at scope) (tree_of first) ++ behind ≡ tests_at scope (statement_of ast)
+  rewrite_tests = ap (λ xs. tests_of (term_at scope) (tree_of first) ++ tests_of_steps (term_at scope) start (map step_of xs)) same ∙ ap (λ a. tests_at scope (statement_of a)) (sym is)
 
-  pub rewrite_holds : AllHold (tests_of (meaning_at scope) (tree_of first)) → StepsAgree scope start items → AllHold (tests_at scope (statement_of ast))
-  rewrite_holds hold h = subst AllHold rewrite_tests (hold-both (tests_of (meaning_at scope) (tree_of first)) behind hold h.0)
+  pub rewrite_holds : AllHold (tests_of (term_at scope) (tree_of first)) → StepsAgree scope start items → AllHold (tests_at scope (statement_of ast))
+  rewrite_holds hold h = subst AllHold rewrite_tests (hold-both (tests_of (term_at scope) (tree_of first)) behind hold h.0)
 
   pub rewrite_alike : (home : List ℕ) → IsTyped start → StepsAgree scope start items → AreTypedAlike (terms_in home scope (statement_of ast))
   rewrite_alike home typed h =
       subst (λ a. AreTypedAlike (terms_in home scope (statement_of a))) (sym is) (subst (λ xs. AreTypedAlike (start ∷ goal_terms scope xs)) same (alike start (goal_terms scope items) typed h.1))
 
-  pub rewrite_fails_first : (token : ℕ) → FailsFirst (tests_of (meaning_at scope) (tree_of first)) token → FailsFirst (tests_at scope (statement_of ast)) token
-  rewrite_fails_first token fails = subst (λ ts. FailsFirst ts token) rewrite_tests (fails-front (tests_of (meaning_at scope) (tree_of first)) behind token fails)
+  pub rewrite_fails_first : (token : ℕ) → FailsFirst (tests_of (term_at scope) (tree_of first)) token → FailsFirst (tests_at scope (statement_of ast)) token
+  rewrite_fails_first token fails = subst (λ ts. FailsFirst ts token) rewrite_tests (fails-front (tests_of (term_at scope) (tree_of first)) behind token fails)
 
-  pub rewrite_fails_behind : (token : ℕ) → AllHold (tests_of (meaning_at scope) (tree_of first)) → StepsDisagree scope start items token
+  pub rewrite_fails_behind : (token : ℕ) → AllHold (tests_of (term_at scope) (tree_of first)) → StepsDisagree scope start items token
       → FailsFirst (tests_at scope (statement_of ast)) token
-  rewrite_fails_behind token hold fails = subst (λ ts. FailsFirst ts token) rewrite_tests (fails-behind (tests_of (meaning_at scope) (tree_of first)) behind token hold fails)
+  rewrite_fails_behind token hold fails = subst (λ ts. FailsFirst ts token) rewrite_tests (fails-behind (tests_of (term_at scope) (tree_of first)) behind token hold fails)

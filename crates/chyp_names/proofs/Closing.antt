@@ -6,12 +6,10 @@ use Rattle.std.proofs.lemmas.List.Elements.{All-cons, All-head, All-nil, All-tai
 use Rattle.chyp_base.specs.declared.verdict.Verdict.{Verdict}
 use Rattle.chyp_base.specs.declared.verdict.Verdict.TheVariants.{Accepted, Clash}
 use Rattle.chyp_lex.specs.declared.token.TokenKind.{TokenKind}
-use Rattle.chyp_lex.specs.declared.token.TokenKind.TheVariants.{Ident}
 use Rattle.chyp_lex.specs.Names.{IsNameText}
 use Rattle.chyp_syntax.specs.Heading.{declared_name, declares, is_identifier}
-use Rattle.chyp_syntax.specs.Numbered.{NumberedToken, kind_of}
-use Rattle.chyp_syntax.specs.Sentence.{IsSentence, IsStatement, is_gen, is_let, is_rule, is_rewrite, is_import, is_import_as, is_show}
-use Rattle.chyp_syntax.specs.Statement.{StatementTree, inclusion, rewrite}
+use Rattle.chyp_syntax.specs.Sentence.{IsSentence}
+use Rattle.chyp_syntax.specs.Statement.{inclusion, rewrite}
 use Rattle.chyp_syntax.specs.Step.{StepTree}
 use Rattle.chyp_syntax.specs.Term.{TermTree}
 use Rattle.chyp_syntax.specs.Words.{Word, bytes_at, keyword_in}
@@ -19,7 +17,7 @@ use Rattle.chyp_syntax.proofs.OneTree.{has_one_tree}
 use Rattle.chyp_term.specs.Morphism.{Morphism}
 use Rattle.chyp_env.specs.ChunkView.{AreNamed}
 use Rattle.chyp_env.specs.Closed.{FitsBehind, HasBoundGenerators, HasBoundSense, IsClosed}
-use Rattle.chyp_env.specs.Environment.{Sense, generator, abbreviation, law, Binding, Origin}
+use Rattle.chyp_env.specs.Environment.{Sense, generator, abbreviation, equation, Binding, Origin}
 use Rattle.chyp_env.specs.Import.{all_passed_on, first_clash}
 use Rattle.chyp_env.specs.Site.{Imported, IsImportState, Site, an_import, no_import, there}
 use Rattle.chyp_env.proofs.Closed.{AreBound, covers-append, term-covered}
@@ -31,11 +29,12 @@ use Rattle.chyp_names.specs.Outcome.{sense_for, terms_in}
 use Rattle.chyp_names.specs.Trees.{goals_of}
 use Rattle.chyp_names.proofs.Stands.{outcome_fit, site_at}
 use Rattle.std.proofs.lemmas.List.Elements.{Contains-push}
+use Rattle.chyp_names.proofs.Made.{both_true, ends_as, identifier_kind}
 
 -- ---- the terms of a statement
 
 -- the terms that the steps of a rewrite lead to
-abbrev goals_at : Site → List StepTree → List Morphism
+abbrev pub goals_at : Site → List StepTree → List Morphism
 goals_at site steps = map (expansion_at site.scope) (goals_of steps)
 
 goals-bound : (s : Site) → AreBound s.scope.env → (steps : List StepTree) → All (HasBoundGenerators s.scope.env) (goals_at s steps)
@@ -69,13 +68,13 @@ sense-bound s bound v sense (a_term {tree} {term = m} t e) name o =
     let same : expansion_at s.scope tree ≡ m = cc in
     term-covered s.scope.env (s.scope.env ++ b ∷ []) (covers-append s.scope.env (b ∷ [])) m (subst (HasBoundGenerators s.scope.env) same (expansion-bound s.scope bound tree))
 sense-bound s bound v sense (a_rule {left} {right} {first} {last} t e) name o =
-    let b : Binding = record { name = name; origin = o; sense = law first last } in
+    let b : Binding = record { name = name; origin = o; sense = equation first last } in
     let one : expansion_at s.scope left ≡ first = cc in
     let two : expansion_at s.scope right ≡ last = cc in
     let more = term-covered s.scope.env (s.scope.env ++ b ∷ []) (covers-append s.scope.env (b ∷ [])) in
     (more first (subst (HasBoundGenerators s.scope.env) one (expansion-bound s.scope bound left)), more last (subst (HasBoundGenerators s.scope.env) two (expansion-bound s.scope bound right)))
 sense-bound s bound v sense (a_proved_rewrite {name = n} {tree} {steps} {first} {last} t f l) name o =
-    let b : Binding = record { name = name; origin = o; sense = law first last } in
+    let b : Binding = record { name = name; origin = o; sense = equation first last } in
     let all = rewrite-bound s bound n tree steps in
     let terms = terms_of s (rewrite n tree steps) in
     let more = term-covered s.scope.env (s.scope.env ++ b ∷ []) (covers-append s.scope.env (b ∷ [])) in
@@ -85,52 +84,28 @@ sense-bound s bound v sense (a_broken_statement r p) name o = tt
 
 -- ---- names
 
-both-true : (a b : Bool) → a && b ≡ true → b ≡ true
-both-true true b e = e
-both-true false b e = absurd (true≢false (sym e))
-
-identifier-kind : (kind : TokenKind) → is_identifier kind ≡ true → kind ≡ Ident
-identifier-kind Ident e = refl
-identifier-kind _ e = absurd (true≢false (sym e))
-
 -- a declared name is a name
 declared-named : (words : List Word) (name : List ℕ) → AreNamed words → declared_name words ≡ Some name → IsNameText name
 declared-named [] name named e = absurd (true≢false (sym (ap is_some e)))
 declared-named (first ∷ []) name named e = absurd (true≢false (sym (ap is_some e)))
-declared-named (first ∷ second ∷ rest) name named e = tell (declares first.kind && is_identifier second.kind) (both-true _ _) e
+declared-named (first ∷ second ∷ rest) name named e = tell (declares first.kind && is_identifier second.kind) (both_true _ _) e
   where
     tell : (b : Bool) → (b ≡ true → is_identifier second.kind ≡ true) → (cond b (Some second.bytes) None) ≡ Some name → IsNameText name
-    tell true kind f = subst IsNameText (ap (λ o. unwrap_or o []) f) (named 1 second (omega arith) (identifier-kind second.kind (kind refl)))
+    tell true kind f = subst IsNameText (ap (λ o. unwrap_or o []) f) (named 1 second (omega arith) (identifier_kind second.kind (kind refl)))
     tell false kind f = absurd (true≢false (sym (ap is_some f)))
-
--- the prefix of an import is its last word, an identifier
-abbrev EndsAs : StatementTree → List NumberedToken → Type 0
-EndsAs (inclusion word None) _ = Unit {0}
-EndsAs (inclusion word (Some prefix)) (a ∷ b ∷ c ∷ last ∷ []) = (last.0 ≡ prefix) × (kind_of last ≡ Ident)
-EndsAs (inclusion word (Some prefix)) _ = ⊥
-EndsAs _ _ = Unit {0}
-
-ends-as : {tokens : List NumberedToken} {tree : StatementTree} → IsStatement tokens tree → EndsAs tree tokens
-ends-as (is_gen w n c d a e) = tt
-ends-as (is_let w n e t) = tt
-ends-as (is_rule equals w n c l e r) = tt
-ends-as (is_rewrite w n c t s) = tt
-ends-as (is_import w n) = tt
-ends-as (is_import_as w n a p) = (refl, p)
-ends-as (is_show w n) = tt
 
 -- so it is a name
 pub prefix-named : (words : List Word) (word : ℕ) (as_word : Option ℕ) → AreNamed words → IsSentence words (inclusion word as_word)
     → IfSome (option_map (bytes_at words) as_word) IsNameText
 prefix-named words word None named s = tt
-prefix-named [] word (Some prefix) named s = absurd (ends-as s.statement)
-prefix-named (a ∷ []) word (Some prefix) named s = absurd (ends-as s.statement)
-prefix-named (a ∷ b ∷ []) word (Some prefix) named s = absurd (ends-as s.statement)
-prefix-named (a ∷ b ∷ c ∷ []) word (Some prefix) named s = absurd (ends-as s.statement)
+prefix-named [] word (Some prefix) named s = absurd (ends_as s.statement)
+prefix-named (a ∷ []) word (Some prefix) named s = absurd (ends_as s.statement)
+prefix-named (a ∷ b ∷ []) word (Some prefix) named s = absurd (ends_as s.statement)
+prefix-named (a ∷ b ∷ c ∷ []) word (Some prefix) named s = absurd (ends_as s.statement)
 prefix-named (a ∷ b ∷ c ∷ d ∷ []) word (Some prefix) named s =
-    let ends = ends-as s.statement in
+    let ends = ends_as s.statement in
     subst (λ n. IsNameText (bytes_at (a ∷ b ∷ c ∷ d ∷ []) n)) ends.0 (named 3 d (omega arith) ends.1)
-prefix-named (a ∷ b ∷ c ∷ d ∷ e ∷ rest) word (Some prefix) named s = absurd (ends-as s.statement)
+prefix-named (a ∷ b ∷ c ∷ d ∷ e ∷ rest) word (Some prefix) named s = absurd (ends_as s.statement)
 
 -- ---- what is bound
 

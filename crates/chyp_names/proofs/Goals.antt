@@ -1,7 +1,7 @@
 -- The terms of goals, step by step, and how big they are together.
-use Rattle.std.proofs.Common.{◌≡◌, ℕ, zero, suc, ◌+◌, ◌<◌, ◌≤◌, List, [], ◌∷◌, ◌++◌, map, length, take, drop}
+use Rattle.std.proofs.Common.{◌≡◌, ℕ, zero, suc, ◌+◌, ◌<◌, List, [], ◌∷◌, ◌++◌, map, length, take, drop}
 use Rattle.std.proofs.Common.{slice_index_or, All, Option, None, Some, refl, sym, ap, subst, ◌∙◌, arith, IsTrue, is_some, true≢false, Bool}
-use Rattle.std.proofs.lemmas.List.{map-append, take-append-drop, take_all}
+use Rattle.std.proofs.lemmas.List.{map-append, take-append-drop}
 use Rattle.std.proofs.lemmas.List.Elements.{All-nil, All-cons, All-head, All-tail, All-append, filter_map-append}
 use Rattle.std.proofs.lemmas.List.Sums.{sum_by-append}
 use Rattle.chyp_syntax.specs.declared.step.StepAst.{StepAst}
@@ -18,7 +18,7 @@ use Rattle.chyp_env.specs.Scope.{Scope}
 use Rattle.chyp_names.specs.Elaboration.{expansion_at, terms_in}
 use Rattle.chyp_names.specs.Goals.{goal_terms, FitBehind, IsSum}
 use Rattle.chyp_names.specs.Trees.{goals_of}
-use Rattle.chyp_names.specs.Limits.{AreWithinLimits, HasFewPorts, most_together}
+use Rattle.chyp_names.specs.Limits.{AreWithinLimits, HasFewPorts}
 
 -- one step more
 pub take_more : {X : Type 0} (xs : List X) (k : ℕ) (x : X) → k < length xs → x ≡ slice_index_or xs k x → take (k + 1) xs ≡ take k xs ++ x ∷ []
@@ -66,13 +66,6 @@ sum_more before sum xs ys None first next = λ fit.
     let together = fit.together in
     next (record { each = all_behind IsWithinLimits xs ys fit.each; together = omega arith })
 
--- nothing adds nothing
-pub sum_nothing : (before : ℕ) → before ≤ most_together → IsSum before [] (Some before)
-sum_nothing before small = (record { each = All-nil IsWithinLimits; together = omega arith }, omega arith)
-
-pub sum_one : (before : ℕ) (xs : List Morphism) (sum : ℕ) → IsSum before xs (Some sum) → sum ≤ most_together
-sum_one before xs sum is = let together = is.0.together in let same = is.1 in omega arith
-
 -- the sum over the steps so far
 pub sum_step : (scope : Scope) (before sum : ℕ) (steps : List StepAst) (k : ℕ) (step : StepAst) (result : Option ℕ) → k < length steps → step ≡ slice_index_or steps k step
     → IsSum before (goal_terms scope (take k steps)) (Some sum) → IsSum sum (goal_terms scope (step ∷ [])) result → IsSum before (goal_terms scope (take (k + 1) steps)) result
@@ -87,10 +80,6 @@ sum_stops scope before sum steps k step within is so_far next = λ fit.
     sum_step scope before sum steps k step None within is so_far next
     (fit_front before (goal_terms scope (take (k + 1) steps)) (goal_terms scope (drop (k + 1) steps))
     (subst (FitBehind before) (ap (goal_terms scope) (sym (take-append-drop (k + 1) steps)) ∙ goal_terms-append scope (take (k + 1) steps) (drop (k + 1) steps)) fit))
-
-pub sum_all : (scope : Scope) (before sum : ℕ) (steps : List StepAst) (k : ℕ) → length steps ≤ k → IsSum before (goal_terms scope (take k steps)) (Some sum)
-    → IsSum before (goal_terms scope steps) (Some sum)
-sum_all scope before sum steps k end so_far = subst (λ xs. IsSum before (goal_terms scope xs) (Some sum)) (take_all k steps end) so_far
 
 -- a statement is small exactly where its terms have a sum
 abbrev pub IsDecided : List ℕ → Scope → Ast → Bool → Type 0

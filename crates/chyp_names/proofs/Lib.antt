@@ -2,7 +2,7 @@ pub mod Alike
 pub mod Closing
 pub mod Firsts
 pub mod Goals
-pub mod Laws
+pub mod Equations
 pub mod Made
 pub mod Refusals
 pub mod Stands

@@ -13,7 +13,7 @@ use Rattle.chyp_syntax.specs.Heading.{declares, is_identifier, declared_name}
 use Rattle.chyp_syntax.specs.Words.{Word, bytes_at}
 use Rattle.chyp_syntax.specs.Numbered.{NumberedToken, kind_of}
 use Rattle.chyp_syntax.specs.Sentence.{IsStatement, IsSentence, is_gen, is_let, is_rule, is_rewrite, is_import, is_import_as, is_show}
-use Rattle.chyp_syntax.specs.Statement.{StatementTree, generator, definition, rule, rewrite, inclusion, showing, statement_of}
+use Rattle.chyp_syntax.specs.Statement.{StatementTree, generator, abbreviation, rule, rewrite, inclusion, showing, statement_of}
 use Rattle.chyp_syntax.specs.Term.{tree_of}
 use Rattle.chyp_base.specs.declared.sort.Sort.{Sort}
 use Rattle.chyp_term.specs.Limits.{IsWithinLimits}
@@ -30,7 +30,7 @@ use Rattle.chyp_names.proofs.Goals.{all_front, all_behind, take_more, take_whole
 -- the keyword of a statement
 abbrev pub keyword_for : StatementTree → TokenKind
 keyword_for (generator name dom cod) = WordGen
-keyword_for (definition name tree) = WordLet
+keyword_for (abbreviation name tree) = WordLet
 keyword_for (rule name left equals right) = WordRule
 keyword_for (rewrite name first steps) = WordRewrite
 keyword_for (inclusion imported prefix) = WordImport
@@ -56,7 +56,7 @@ begins_as (is_show w n) = w
 pub sentence_keyword : (first : Word) (rest : List Word) (tree : StatementTree) → IsSentence (first ∷ rest) tree → first.kind ≡ keyword_for tree
 sentence_keyword first [] (generator name dom cod) s = absurd (begins_as s.statement)
 sentence_keyword first (second ∷ rest) (generator name dom cod) s = (begins_as s.statement).0
-sentence_keyword first rest (definition name tree) s = begins_as s.statement
+sentence_keyword first rest (abbreviation name tree) s = begins_as s.statement
 sentence_keyword first rest (rule name left equals right) s = begins_as s.statement
 sentence_keyword first rest (rewrite name start steps) s = begins_as s.statement
 sentence_keyword first rest (inclusion imported prefix) s = begins_as s.statement
@@ -76,11 +76,11 @@ pub name_spelled : (words : List Word) (ast : Ast) (name dom cod : ℕ) → AreS
 name_spelled words ast name dom cod spelled is s = generator_spelled words name dom cod spelled (subst (λ a. IsSentence words (statement_of a)) is s)
 
 -- a declared name is UTF-8
-both_true : (a b : Bool) → a && b ≡ true → b ≡ true
+pub both_true : (a b : Bool) → a && b ≡ true → b ≡ true
 both_true true b e = e
 both_true false b e = absurd (true≢false (sym e))
 
-identifier_kind : (kind : TokenKind) → is_identifier kind ≡ true → kind ≡ Ident
+pub identifier_kind : (kind : TokenKind) → is_identifier kind ≡ true → kind ≡ Ident
 identifier_kind Ident e = refl
 identifier_kind _ e = absurd (true≢false (sym e))
 
@@ -151,14 +151,14 @@ in_module [] name e = absurd (true≢false (sym e))
 in_module (b ∷ home) name e = sym (append_assoc (b ∷ home) (47 ∷ []) name)
 
 -- the prefix of an import is its last word, an identifier
-abbrev EndsAs : StatementTree → List NumberedToken → Type 0
+abbrev pub EndsAs : StatementTree → List NumberedToken → Type 0
 EndsAs (inclusion word None) (a ∷ b ∷ []) = Unit {0}
 EndsAs (inclusion word None) _ = ⊥
 EndsAs (inclusion word (Some prefix)) (a ∷ b ∷ c ∷ last ∷ []) = (last.0 ≡ prefix) × (kind_of last ≡ Ident)
 EndsAs (inclusion word (Some prefix)) _ = ⊥
 EndsAs _ _ = Unit {0}
 
-ends_as : {tokens : List NumberedToken} {tree : StatementTree} → IsStatement tokens tree → EndsAs tree tokens
+pub ends_as : {tokens : List NumberedToken} {tree : StatementTree} → IsStatement tokens tree → EndsAs tree tokens
 ends_as (is_gen w n c d a e) = tt
 ends_as (is_let w n e t) = tt
 ends_as (is_rule equals w n c l e r) = tt

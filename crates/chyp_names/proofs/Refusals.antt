@@ -1,5 +1,5 @@
 -- What refuses a statement.
-use Rattle.std.proofs.Common.{◌≡◌, ℕ, false, List, [], ◌∷◌, map, Option, None, Some, IfSome, refl, sym, ap, ap₂, ◌∙◌, ◌||◌}
+use Rattle.std.proofs.Common.{◌≡◌, ℕ, false, List, [], ◌∷◌, map, Option, None, Some, refl, sym, ap, ap₂, ◌∙◌, ◌||◌}
 use Rattle.std.specs.Prelude.{is_none, option_map}
 use Rattle.std.specs.List.{list_any}
 use Rattle.chyp_base.specs.declared.verdict.Verdict.{Verdict}
@@ -12,17 +12,11 @@ use Rattle.chyp_syntax.specs.Step.{step_of}
 use Rattle.chyp_syntax.specs.Term.{tree_of}
 use Rattle.chyp_env.specs.Scope.{is_declared}
 use Rattle.chyp_env.specs.Site.{Site}
-use Rattle.chyp_names.specs.Elaboration.{IsRefused, import_fault, has_hole, at_name, mistyped, unproved, terms_of}
+use Rattle.chyp_names.specs.Elaboration.{IsRefused, import_fault, has_hole, mistyped, unproved, terms_of}
 use Rattle.chyp_names.specs.Limits.{AreWithinLimits}
 use Rattle.chyp_names.specs.Refusal.{IsRefusedByTerms}
 use Rattle.chyp_names.specs.Refusal as here
 use Rattle.chyp_names.specs.Naming.{first_fault}
-
--- a fault of names refuses the statement
-pub refused_at_name : (site : Site) (tree : StatementTree) (result : Option Verdict) → is_declared site.scope ≡ false → import_fault site tree ≡ None → result ≡ first_fault site.scope tree
-    → IfSome result (IsRefused site tree)
-refused_at_name site tree None fresh fits is = tt
-refused_at_name site tree (Some verdict) fresh fits is = at_name fresh fits (sym is)
 
 is_none-map : (goal : Option TermAst) → is_none (option_map tree_of goal) ≡ is_none goal
 is_none-map None = refl

@@ -10,7 +10,7 @@ use Rattle.chyp_lex.specs.declared.token.TokenKind.{TokenKind}
 use Rattle.chyp_lex.specs.declared.token.TokenKind.TheVariants.{WordGen, WordRewrite}
 use Rattle.chyp_syntax.specs.Heading.{declares, is_identifier, declared_name}
 use Rattle.chyp_syntax.specs.Sentence.{IsSentence}
-use Rattle.chyp_syntax.specs.Statement.{StatementTree, generator as a_gen, definition, rule, rewrite, inclusion, showing}
+use Rattle.chyp_syntax.specs.Statement.{StatementTree, generator as a_gen, abbreviation, rule, rewrite, inclusion, showing}
 use Rattle.chyp_term.specs.Derivation.{empty, IsEquation}
 use Rattle.chyp_term.specs.Morphism.{Morphism}
 use Rattle.chyp_env.specs.Environment.{Sense, Binding, binding_of, is_bound}
@@ -52,7 +52,7 @@ accepted_fit site (a_gen name dom cod) declares other s p = record {
   stands = a_declared_generator s refl;
   sound = λ alike. (few dom p.small.ports.0, few cod p.small.ports.1);
 }
-accepted_fit site (definition name tree) declares other s p = record {
+accepted_fit site (abbreviation name tree) declares other s p = record {
   has = (omega arith, λ e. absurd (true≢false (sym (ap is_gen_word e))));
   stands = a_term s refl;
   sound = λ alike. ((alike 0 empty (omega arith) 0 empty (omega arith)).left, p.small.each 0 empty (omega arith));
@@ -82,7 +82,7 @@ proved_fit site (rewrite name first steps) k s p =
       sound = λ alike. (alike 0 empty some (length terms - 1) empty last, p.small.each 0 empty some, p.small.each (length terms - 1) empty last);
     }
 proved_fit site (a_gen name dom cod) k s p = absurd (true≢false (sym (ap is_rewrite_word k)))
-proved_fit site (definition name tree) k s p = absurd (true≢false (sym (ap is_rewrite_word k)))
+proved_fit site (abbreviation name tree) k s p = absurd (true≢false (sym (ap is_rewrite_word k)))
 proved_fit site (rule name left equals right) k s p = absurd (true≢false (sym (ap is_rewrite_word k)))
 proved_fit site (inclusion imported prefix) k s p = absurd (true≢false (sym (ap is_rewrite_word k)))
 proved_fit site (showing name) k s p = absurd (true≢false (sym (ap is_rewrite_word k)))

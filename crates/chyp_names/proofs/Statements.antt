@@ -9,12 +9,12 @@ use Rattle.chyp_term.specs.Derivation.{IsEquation, empty as nothing}
 use Rattle.chyp_term.specs.Morphism.{Morphism, dom, cod, IsTyped}
 use Rattle.chyp_syntax.specs.declared.step.ReasonAst.{ReasonAst}
 use Rattle.chyp_syntax.specs.declared.step.ReasonAst.TheVariants.{Plain}
-use Rattle.chyp_syntax.specs.Statement.{StatementTree, generator, definition, rule, rewrite, inclusion, showing}
+use Rattle.chyp_syntax.specs.Statement.{StatementTree, generator, abbreviation, rule, rewrite, inclusion, showing}
 use Rattle.chyp_syntax.specs.Step.{StepTree}
 use Rattle.chyp_syntax.specs.Term.{TermTree, TermTrees, named, wire, empty, swap, chain, beside, no_terms, term}
 use Rattle.chyp_env.specs.Expansion.{expansion_in, expansions_in}
 use Rattle.chyp_env.specs.Environment.{Binding, binding_of}
-use Rattle.chyp_env.specs.Scope.{Scope, term_of, meaning_at}
+use Rattle.chyp_env.specs.Scope.{Scope, term_of, term_at}
 use Rattle.chyp_env.specs.Site.{Site}
 use Rattle.chyp_names.specs.Elaboration.{expansion_at, terms_of, tests_at}
 use Rattle.chyp_syntax.specs.Words.{bytes_at}
@@ -95,21 +95,21 @@ alike-list m ms first typed others e =
     subst (λ (x : Morphism). All (IsEquation x) (m ∷ ms)) same (All-cons (IsEquation m) m ms (equation-same m typed) others)
 
 -- the terms of trees whose tests hold are typed, and have the type of the first one
-trees-alike : (scope : Scope) → ((k : ℕ) → IsTyped (meaning_at scope k)) → (tree : TermTree) (steps : List StepTree)
-    → AllHold (tests_of (meaning_at scope) tree ++ tests_of_steps (meaning_at scope) (expansion_at scope tree) steps) → (first : Morphism)
+trees-alike : (scope : Scope) → ((k : ℕ) → IsTyped (term_at scope k)) → (tree : TermTree) (steps : List StepTree)
+    → AllHold (tests_of (term_at scope) tree ++ tests_of_steps (term_at scope) (expansion_at scope tree) steps) → (first : Morphism)
     → Some (expansion_at scope tree) ≡ Some first
     → All (IsEquation first) (expansion_at scope tree ∷ map (expansion_at scope) (goals_of steps))
 trees-alike scope typed tree steps h first e =
-    let meaning = meaning_at scope in
+    let meaning = term_at scope in
     let m = expansion_at scope tree in
     let front = typed-of-tests meaning typed tree (hold-front (tests_of meaning tree) (tests_of_steps meaning m steps) h) in
     alike-list m _ first front (steps-alike meaning typed m front steps (hold-behind (tests_of meaning tree) (tests_of_steps meaning m steps) h)) e
 
 -- so are those of a statement
-pub statement-alike : (site : Site) → ((k : ℕ) → IsTyped (meaning_at site.scope k)) → (tree : StatementTree) → AllHold (tests_at site.scope tree)
+pub statement-alike : (site : Site) → ((k : ℕ) → IsTyped (term_at site.scope k)) → (tree : StatementTree) → AllHold (tests_at site.scope tree)
     → (first : Morphism) → slice_get (terms_of site tree) 0 ≡ Some first → All (IsEquation first) (terms_of site tree)
 statement-alike site typed (generator name dom cod) h first e = alike-list _ [] first tt (All-nil (IsEquation _)) e
-statement-alike site typed (definition name tree) h first e = trees-alike site.scope typed tree [] h first e
+statement-alike site typed (abbreviation name tree) h first e = trees-alike site.scope typed tree [] h first e
 statement-alike site typed (rule name left equals right) h first e =
     trees-alike site.scope typed left (record { equals = equals; goal = Some right; reason = Plain } ∷ []) h first e
 statement-alike site typed (rewrite name tree steps) h first e = trees-alike site.scope typed tree steps h first e
@@ -126,7 +126,7 @@ alike-each first terms h = λ k d k-in j e j-in. record {
 }
 
 -- a name stands for a typed term, where all that are bound do
-pub meaning-typed : (scope : Scope) → All (λ binding. IsTyped (term_of binding.sense)) scope.env → (token : ℕ) → IsTyped (meaning_at scope token)
+pub meaning-typed : (scope : Scope) → All (λ binding. IsTyped (term_of binding.sense)) scope.env → (token : ℕ) → IsTyped (term_at scope token)
 meaning-typed scope typed token = go scope.env typed
   where
     go : (env : List Binding) → All (λ binding. IsTyped (term_of binding.sense)) env

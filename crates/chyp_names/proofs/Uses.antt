@@ -4,13 +4,13 @@ use Rattle.std.specs.List.{filter_map}
 use Rattle.std.proofs.lemmas.List.{map-append}
 use Rattle.std.proofs.lemmas.List.Elements.{filter_map-append}
 use Rattle.chyp_syntax.specs.declared.term.TermAst.{TermAst}
-use Rattle.chyp_syntax.specs.declared.term.TermAst.TheVariants.{Named, Wire, Empty, Swap, Chain, Beside}
+use Rattle.chyp_syntax.specs.declared.term.TermAst.TheVariants.{Chain, Beside}
 use Rattle.chyp_syntax.specs.declared.step.ReasonAst.TheVariants.{Plain}
 use Rattle.chyp_syntax.specs.declared.step.SignedAst.{SignedAst}
 use Rattle.chyp_syntax.specs.declared.step.StepAst.{StepAst}
 use Rattle.chyp_syntax.specs.Step.{StepTree, step_of}
 use Rattle.chyp_syntax.specs.Term.{TermTree, terms_of, tree_of}
-use Rattle.chyp_syntax.proofs.Trees.{tree_of-Named, tree_of-Wire, tree_of-Empty, tree_of-Swap, tree_of-Chain, tree_of-Beside}
+use Rattle.chyp_syntax.proofs.Trees.{tree_of-Chain, tree_of-Beside}
 use Rattle.chyp_names.specs.Naming.{Use, in_term, in_reason, names_in, names_in_all, names_of_reason, uses_in, uses_in_goal, uses_in_step, uses_of, unproved_use, first_unproved}
 use Rattle.chyp_names.specs.Faults.{first_unproved_among}
 use Rattle.chyp_syntax.specs.Statement.{rule as a_rule, statement_of}
@@ -26,18 +26,6 @@ uses_in_parts : (parts : List TermAst) → map in_term (names_in_all (terms_of (
 uses_in_parts [] = refl
 uses_in_parts (part ∷ parts) =
     map-append in_term (names_in (tree_of part)) (names_in_all (terms_of (map tree_of parts))) ∙ ap (λ us. part_uses part ++ us) (uses_in_parts parts)
-
-pub uses_in-Named : (token : ℕ) → part_uses (Named token) ≡ in_term token ∷ []
-uses_in-Named token = ap uses_in (tree_of-Named token)
-
-pub uses_in-Wire : part_uses Wire ≡ []
-uses_in-Wire = ap uses_in tree_of-Wire
-
-pub uses_in-Empty : part_uses Empty ≡ []
-uses_in-Empty = ap uses_in tree_of-Empty
-
-pub uses_in-Swap : (token : ℕ) (places : Option (List ℕ)) → part_uses (Swap token places) ≡ []
-uses_in-Swap token places = ap uses_in (tree_of-Swap token places)
 
 pub uses_in-Chain : (parts : List TermAst) (semis : List ℕ) → part_uses (Chain parts semis) ≡ flat_map part_uses parts
 uses_in-Chain parts semis = ap uses_in (tree_of-Chain parts semis) ∙ uses_in_parts parts

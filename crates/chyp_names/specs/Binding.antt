@@ -6,12 +6,12 @@ use Rattle.chyp_base.specs.declared.verdict.Verdict.TheVariants.{Accepted, Prove
 use Rattle.chyp_lex.specs.declared.token.TokenKind.TheVariants.{WordRewrite}
 use Rattle.chyp_syntax.specs.Heading.{declared_name}
 use Rattle.chyp_syntax.specs.Sentence.{IsSentence}
-use Rattle.chyp_syntax.specs.Statement.{StatementTree, generator as a_gen, definition, rule, rewrite, inclusion}
+use Rattle.chyp_syntax.specs.Statement.{StatementTree, generator as a_gen, abbreviation as a_let, rule, rewrite, inclusion}
 use Rattle.chyp_syntax.specs.Step.{StepTree}
 use Rattle.chyp_syntax.specs.Term.{TermTree}
 use Rattle.chyp_syntax.specs.Words.{Word}
 use Rattle.chyp_term.specs.Morphism.{Morphism, generator as a_generator}
-use Rattle.chyp_env.specs.Environment.{Sense, generator, abbreviation, law, unproved, broken, Binding, is_bound}
+use Rattle.chyp_env.specs.Environment.{Sense, generator, abbreviation, equation, unproved, broken, Binding, is_bound}
 use Rattle.chyp_env.specs.Import.{all_passed_on, new_in}
 use Rattle.chyp_env.specs.Site.{Imported, there, Site}
 use Rattle.chyp_names.specs.declared.body.Body.{Body}
@@ -23,20 +23,20 @@ IsRewrite [] = ⊥
 IsRewrite (keyword ∷ rest) = keyword.kind ≡ WordRewrite
 
 -- What the name of a statement stands for. An accepted `gen` is a generator, an accepted `let` its term, and an accepted
--- `rule` and a proved `rewrite` are laws, from the first term to the last. Any other `rewrite` is unproved, whatever its
+-- `rule` and a proved `rewrite` are equations, from the first term to the last. Any other `rewrite` is unproved, whatever its
 -- verdict, and any other statement that is refused is broken.
 pub data StandsFor (site : Site) : Verdict → Sense → Type 0 where
   a_declared_generator : {name dom cod : ℕ} {label : List ℕ} {a b : List Sort} → IsSentence site.scope.words (a_gen name dom cod)
       → terms_of site (a_gen name dom cod) ≡ a_generator label a b ∷ [] → StandsFor site Accepted (generator label a b)
-  a_term : {name : ℕ} {tree : TermTree} {term : Morphism} → IsSentence site.scope.words (definition name tree)
-      → terms_of site (definition name tree) ≡ term ∷ [] → StandsFor site Accepted (abbreviation term)
+  a_term : {name : ℕ} {tree : TermTree} {term : Morphism} → IsSentence site.scope.words (a_let name tree)
+      → terms_of site (a_let name tree) ≡ term ∷ [] → StandsFor site Accepted (abbreviation term)
   a_rule : {name equals : ℕ} {left right : TermTree} {first last : Morphism} → IsSentence site.scope.words (rule name left equals right)
-      → terms_of site (rule name left equals right) ≡ first ∷ last ∷ [] → StandsFor site Accepted (law first last)
+      → terms_of site (rule name left equals right) ≡ first ∷ last ∷ [] → StandsFor site Accepted (equation first last)
   a_proved_rewrite : {name : ℕ} {tree : TermTree} {steps : List StepTree} {first last : Morphism}
       → IsSentence site.scope.words (rewrite name tree steps)
       → slice_get (terms_of site (rewrite name tree steps)) 0 ≡ Some first
       → slice_get (terms_of site (rewrite name tree steps)) (length (terms_of site (rewrite name tree steps)) - 1) ≡ Some last
-      → StandsFor site Proved (law first last)
+      → StandsFor site Proved (equation first last)
   an_unproved_rewrite : {verdict : Verdict} → IsRewrite site.scope.words → ¬ (verdict ≡ Proved) → StandsFor site verdict unproved
   a_broken_statement : {verdict : Verdict} → ¬ IsRewrite site.scope.words → ¬ (verdict ≡ Accepted) → StandsFor site verdict broken
 

@@ -13,10 +13,10 @@ use Rattle.chyp_syntax.specs.Words.{bytes_at}
 use Rattle.chyp_term.specs.Derivation.{empty}
 use Rattle.chyp_term.specs.Morphism.{Morphism, generator as a_generator}
 use Rattle.chyp_term.specs.Step.{Reason, by_laws, by_rule, by_simp, reasons_of}
-use Rattle.chyp_env.specs.Environment.{Sense, law, Binding}
+use Rattle.chyp_env.specs.Environment.{Sense, equation, Binding}
 use Rattle.chyp_env.specs.Import.{all_passed_on, first_clash}
 use Rattle.chyp_env.specs.Expansion.{expansion_in, plain_wires}
-use Rattle.chyp_env.specs.Scope.{Scope, binding_at, is_declared, meaning_at}
+use Rattle.chyp_env.specs.Scope.{Scope, binding_at, is_declared, term_at}
 use Rattle.chyp_env.specs.Site.{Imported, nothing, absent, on_cycle, there, Site}
 use Rattle.chyp_env.specs.Typing.{Test, AllHold, FailsFirst}
 use Rattle.chyp_names.specs.declared.body.Body.{Body}
@@ -32,7 +32,7 @@ generator_name home name = home ++ codes "/" ++ name
 
 -- the term of a tree where the statement stands
 abbrev pub expansion_at : Scope → TermTree → Morphism
-expansion_at scope tree = expansion_in (meaning_at scope) tree
+expansion_at scope tree = expansion_in (term_at scope) tree
 
 -- the terms of a statement in the module of this name: those of its trees, and that of a `gen` is the generator
 abbrev pub terms_in : List ℕ → Scope → StatementTree → List Morphism
@@ -44,9 +44,9 @@ terms_in home scope tree = map (expansion_at scope) (trees_of tree)
 abbrev pub terms_of : Site → StatementTree → List Morphism
 terms_of site tree = terms_in site.home site.scope tree
 
--- the equation of a law
+-- the sides of an equation
 abbrev pub equation_of_sense : Sense → Morphism × Morphism
-equation_of_sense (law first last) = (first, last)
+equation_of_sense (equation first last) = (first, last)
 equation_of_sense _ = (empty, empty)
 
 -- the equation that a name behind a `by` stands for, with its sides exchanged behind a `-`
@@ -55,7 +55,7 @@ equation_at scope signed = directed signed.minus
     (option_map_or (λ binding. equation_of_sense binding.sense) (binding_at scope signed.name) (empty, empty))
   where
     directed : Bool → Morphism × Morphism → Morphism × Morphism
-    directed minus equation = if minus then (equation.1, equation.0) else equation
+    directed minus sides = if minus then (sides.1, sides.0) else sides
 
 -- what a step rests on
 abbrev pub reason_at : Scope → ReasonAst → Reason
@@ -74,7 +74,7 @@ has_hole tree = list_any (λ step. is_none step.goal) (steps_of tree)
 
 -- the tests of a statement where it stands
 abbrev pub tests_at : Scope → StatementTree → List Test
-tests_at scope tree = tests_of_statement (meaning_at scope) tree
+tests_at scope tree = tests_of_statement (term_at scope) tree
 
 -- the statement is an import
 abbrev pub is_import : StatementTree → Bool

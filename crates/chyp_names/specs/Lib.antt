@@ -3,7 +3,7 @@ pub mod Binding
 pub mod Elaboration
 pub mod Faults
 pub mod Goals
-pub mod Laws
+pub mod Equations
 pub mod Limits
 pub mod Naming
 pub mod Outcome

@@ -8,7 +8,7 @@ use Rattle.chyp_syntax.specs.declared.step.ReasonAst.TheVariants.{Plain, Rule, S
 use Rattle.chyp_syntax.specs.Statement.{StatementTree, showing}
 use Rattle.chyp_syntax.specs.Step.{StepTree}
 use Rattle.chyp_syntax.specs.Term.{TermTree, TermTrees, named, wire, empty, swap, chain, beside, no_terms, term}
-use Rattle.chyp_env.specs.Environment.{Sense, generator, abbreviation, law, unproved, broken, Binding}
+use Rattle.chyp_env.specs.Environment.{Sense, generator, abbreviation, equation, unproved, broken, Binding}
 use Rattle.chyp_env.specs.Scope.{Scope, binding_at}
 use Rattle.chyp_names.specs.Trees.{first_tree, steps_of}
 
@@ -62,12 +62,12 @@ abbrev pub fault_in_term : Sense → ℕ → Option Verdict
 fault_in_term (generator name dom cod) token = None
 fault_in_term (abbreviation m) token = None
 fault_in_term broken token = Some (Broken token)
-fault_in_term (law first last) token = Some (Kind token)
+fault_in_term (equation first last) token = Some (Kind token)
 fault_in_term unproved token = Some (Kind token)
 
 -- what is wrong with a name of this sense behind a `by`
 abbrev pub fault_in_reason : Sense → ℕ → Option Verdict
-fault_in_reason (law first last) token = None
+fault_in_reason (equation first last) token = None
 fault_in_reason unproved token = None
 fault_in_reason broken token = Some (Broken token)
 fault_in_reason (generator name dom cod) token = Some (Kind token)

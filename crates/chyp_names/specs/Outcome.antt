@@ -6,7 +6,7 @@ use Rattle.chyp_lex.specs.declared.token.TokenKind.{TokenKind}
 use Rattle.chyp_lex.specs.declared.token.TokenKind.TheVariants.{WordGen, WordLet, WordRewrite}
 use Rattle.chyp_term.specs.Derivation.{empty}
 use Rattle.chyp_term.specs.Morphism.{Morphism, generator as a_generator}
-use Rattle.chyp_env.specs.Environment.{Sense, generator, abbreviation, law, unproved, broken}
+use Rattle.chyp_env.specs.Environment.{Sense, generator, abbreviation, equation, unproved, broken}
 use Rattle.chyp_names.specs.declared.body.Body.{Body}
 
 -- the terms of a body, none where there is no body
@@ -35,7 +35,7 @@ generator_sense _ = broken
 abbrev pub accepted_sense : Option TokenKind → List Morphism → Sense
 accepted_sense (Some WordGen) terms = generator_sense (first_of terms)
 accepted_sense (Some WordLet) terms = abbreviation (first_of terms)
-accepted_sense _ terms = law (first_of terms) (last_of terms)
+accepted_sense _ terms = equation (first_of terms) (last_of terms)
 
 -- what a statement stands for that is neither accepted nor proved
 abbrev pub refused_sense : Option TokenKind → Sense
@@ -45,7 +45,7 @@ refused_sense _ = broken
 -- what a statement stands for
 abbrev pub sense_for : Option TokenKind → List Morphism → Verdict → Sense
 sense_for keyword terms Accepted = accepted_sense keyword terms
-sense_for keyword terms Proved = law (first_of terms) (last_of terms)
+sense_for keyword terms Proved = equation (first_of terms) (last_of terms)
 sense_for keyword terms _ = refused_sense keyword
 
 -- a statement that is good has a term, and that of a `gen` is a generator

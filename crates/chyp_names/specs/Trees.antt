@@ -2,13 +2,13 @@
 use Rattle.std.specs.Prelude.{List, [], ◌∷◌, Option, None, Some}
 use Rattle.std.specs.List.{cons_option, filter_map}
 use Rattle.chyp_syntax.specs.declared.step.ReasonAst.TheVariants.{Plain}
-use Rattle.chyp_syntax.specs.Statement.{StatementTree, definition, rule, rewrite}
+use Rattle.chyp_syntax.specs.Statement.{StatementTree, abbreviation, rule, rewrite}
 use Rattle.chyp_syntax.specs.Step.{StepTree}
 use Rattle.chyp_syntax.specs.Term.{TermTree}
 
 -- the first tree of a statement, None where it has none
 abbrev pub first_tree : StatementTree → Option TermTree
-first_tree (definition name tree) = Some tree
+first_tree (abbreviation name tree) = Some tree
 first_tree (rule name left equals right) = Some left
 first_tree (rewrite name first steps) = Some first
 first_tree _ = None

@@ -222,7 +222,7 @@ fn bind_name(
 /// what the environment has from it.
 ///
 /// An accepted `gen` is bound as a generator, an accepted `let` as its term, an accepted `rule` and a
-/// proved `rewrite` as laws from the first term to the last, any other `rewrite` as one that is not
+/// proved `rewrite` as equations from the first term to the last, any other `rewrite` as one that is not
 /// proved, and any other statement as broken. An accepted `import` binds each name of its module, behind
 /// its prefix, that is not bound yet. Nothing else is bound: no name that is bound already.
 ///

@@ -5,7 +5,7 @@ ghost use Rattle.chyp_syntax.specs.Step.{step_of};
 ghost use Rattle.chyp_term.specs.Equation.{equation_of, equations_of};
 ghost use Rattle.chyp_term.specs.Step.{reason_of, reasons_of};
 ghost use Rattle.chyp_names.specs.Elaboration.{equation_at, reason_at, steps_at};
-ghost use Rattle.chyp_names.specs.Laws.{IsLawAt, RestsOnLaws};
+ghost use Rattle.chyp_names.specs.Equations.{IsEquationAt, RestsOnEquations};
 ghost use Rattle.chyp_names.specs.Naming.{first_fault, first_unproved};
 
 use chyp_base::NoMemory;
@@ -16,17 +16,17 @@ use std::alloc::Global;
 
 // The equation of a rule, with its sides exchanged behind a `-`.
 fn equation(rule: SignedAst, scope: &Scope<'_>) -> Result<Equation, NoMemory>
-    requires { IsLawAt scope.now rule.name }
+    requires { IsEquationAt scope.now rule.name }
     ensures { IfOk result (λ equation. equation_of equation ≡ equation_at scope.now rule) }
 {
     let Some(entry) = scope.entry_at(rule.name) else {
         unreachable!()
     };
-    let Meaning::Law(law) = &entry.meaning else {
+    let Meaning::Law(sides) = &entry.meaning else {
         unreachable!()
     };
-    let left = copy(&law.left)?;
-    let right = copy(&law.right)?;
+    let left = copy(&sides.left)?;
+    let right = copy(&sides.right)?;
     if rule.minus {
         Ok(Equation {
             left: right,
@@ -39,7 +39,7 @@ fn equation(rule: SignedAst, scope: &Scope<'_>) -> Result<Equation, NoMemory>
 
 // The equations of some rules.
 fn equations(alloc: Global, rules: &[SignedAst], scope: &Scope<'_>) -> Result<Equations, NoMemory>
-    requires { All (λ rule. IsLawAt scope.now rule.name) rules.now }
+    requires { All (λ rule. IsEquationAt scope.now rule.name) rules.now }
     ensures { IfOk result (λ equations. equations_of equations ≡ map (equation_at scope.now) rules.now) }
 {
     let mut equations = Vec::with_capacity(alloc, rules.len())?;
@@ -51,7 +51,7 @@ fn equations(alloc: Global, rules: &[SignedAst], scope: &Scope<'_>) -> Result<Eq
 
 // What a step rests on.
 fn step(alloc: Global, reason: &ReasonAst, scope: &Scope<'_>) -> Result<Step, NoMemory>
-    requires { RestsOnLaws scope.now reason.now }
+    requires { RestsOnEquations scope.now reason.now }
     ensures { IfOk result (λ step. reason_of step ≡ reason_at scope.now reason.now) }
 {
     match reason {
@@ -63,7 +63,7 @@ fn step(alloc: Global, reason: &ReasonAst, scope: &Scope<'_>) -> Result<Step, No
 
 // What some steps rest on.
 fn step_list(alloc: Global, steps: &[StepAst], scope: &Scope<'_>) -> Result<StepList, NoMemory>
-    requires { All (λ step. RestsOnLaws scope.now step.reason) steps.now }
+    requires { All (λ step. RestsOnEquations scope.now step.reason) steps.now }
     ensures { IfOk result (λ list. reasons_of list
         ≡ map (λ step. reason_at scope.now step.reason) (map step_of steps.now)) }
 {

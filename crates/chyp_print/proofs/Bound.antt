@@ -14,7 +14,7 @@ use Rattle.chyp_base.proofs.SortEquality.{same_sort-Decides}
 use Rattle.chyp_term.specs.Derivation.{empty}
 use Rattle.chyp_term.specs.Morphism.{Morphism, generator, permutation, then, beside}
 use Rattle.chyp_env.specs.Closed.{HasBoundGenerators, IsBoundGenerator, IsClosed}
-use Rattle.chyp_env.specs.Environment.{Binding, Sense, abbreviation, binding_of, broken, generator as a_generator, is_bound, law, unproved}
+use Rattle.chyp_env.specs.Environment.{Binding, Sense, abbreviation, binding_of, broken, generator as a_generator, is_bound, equation, unproved}
 use Rattle.chyp_env.specs.Scope.{term_of}
 use Rattle.chyp_env.specs.Sound.{HasDistinctNames}
 use Rattle.chyp_env.proofs.Bindings.{Contains-cons, Contains-from_cons}
@@ -35,7 +35,7 @@ is_generator-is n a b (a_generator m c d) h =
     let to : b ≡ d = (slice_eq-Decides same_sort-Decides b d _ refl).0 inner.1 in
     rw (name, from, to) refl
 is_generator-is n a b (abbreviation m) h = absurd (false≢true h)
-is_generator-is n a b (law l r) h = absurd (false≢true h)
+is_generator-is n a b (equation l r) h = absurd (false≢true h)
 is_generator-is n a b unproved h = absurd (false≢true h)
 is_generator-is n a b broken h = absurd (false≢true h)
 

@@ -7,7 +7,7 @@ use Rattle.std.proofs.lemmas.List.{drop_all}
 use Rattle.chyp_base.specs.declared.sort.Sort.{Sort}
 use Rattle.chyp_term.proofs.Slices.{take-suc}
 use Rattle.indexmap.specs.IndexMap.{insert_entry}
-use Rattle.chyp_env.specs.Environment.{Binding, Sense, abbreviation, broken, generator as a_generator, law, unproved}
+use Rattle.chyp_env.specs.Environment.{Binding, Sense, abbreviation, broken, generator as a_generator, equation, unproved}
 use Rattle.chyp_print.specs.Environments.{first_binding, is_generator}
 use Rattle.chyp_print.specs.FirstNames.{IsIndex, IsNoted, first_number, is_named, number_of, or_else}
 
@@ -66,7 +66,7 @@ noted-new sense own a b number pairs after key e is none inserted name =
 generator-named : (n : List ℕ) (a b : List Sort) (sense : Sense) → is_named n sense ≡ false → is_generator n a b sense ≡ false
 generator-named n a b (a_generator m c d) h = rw h refl
 generator-named n a b (abbreviation m) h = refl
-generator-named n a b (law l r) h = refl
+generator-named n a b (equation l r) h = refl
 generator-named n a b unproved h = refl
 generator-named n a b broken h = refl
 

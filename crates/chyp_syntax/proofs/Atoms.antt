@@ -4,7 +4,8 @@ use Rattle.chyp_lex.specs.declared.token.Token.{Token}
 use Rattle.chyp_lex.specs.declared.token.TokenKind.{TokenKind}
 use Rattle.chyp_lex.specs.declared.token.TokenKind.TheVariants.{Ident, Dotted, Semicolon, Star, LeftParenthesis, RightParenthesis, WordId, WordId0, WordSw}
 use Rattle.chyp_syntax.specs.Expected.{places_left, atoms_left, pars_left, token, atom, tail, Expected, next, takes, refuses, answer, term_then, stopped, verdict}
-use Rattle.chyp_syntax.specs.Numbered.{NumberedToken, kind_of, tokens_from, BeginsWithKind, IsName}
+use Rattle.chyp_syntax.specs.Numbered.{NumberedToken, kind_of, IsName}
+use Rattle.chyp_syntax.specs.Beginning.{tokens_from, BeginsWithKind}
 use Rattle.chyp_syntax.specs.Reads.{BeginsWith}
 use Rattle.chyp_syntax.specs.Sentence.{IsSwap, IsAtom, a_name, an_id, an_id0, a_swap, in_parentheses, AreAtoms, one_atom, more_atoms, IsPar, tensor, ArePars, one_par, more_pars, IsTerm, composite}
 use Rattle.chyp_syntax.specs.Term.{TermTree, named, wire, empty, tensor_of, chain_of}
@@ -48,10 +49,6 @@ wire_there xs ys depth x here is = single (IsAtom depth) xs ys x wire here (an_i
 
 pub empty_there : (xs ys : List NumberedToken) (depth : ℕ) (x : NumberedToken) → xs ≡ x ∷ ys → kind_of x ≡ WordId0 → BeginsWith (IsAtom depth) xs ys empty
 empty_there xs ys depth x here is = single (IsAtom depth) xs ys x empty here (an_id0 {word = x} is)
-
-pub name_takes : (depth : ℕ) (x : NumberedToken) → IsName x → answer (atom depth) (kind_of x) ≡ takes []
-name_takes depth x (inl k) = ap (answer (atom depth)) k
-name_takes depth x (inr k) = ap (answer (atom depth)) k
 
 -- ---- swaps
 

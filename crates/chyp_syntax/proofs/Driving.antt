@@ -5,12 +5,13 @@ use Rattle.chyp_lex.specs.declared.token.TokenKind.TheVariants.{Ident, Dotted, N
 use Rattle.chyp_syntax.specs.declared.step.ReasonAst.{ReasonAst}
 use Rattle.chyp_syntax.specs.declared.step.SignedAst.{SignedAst}
 use Rattle.chyp_syntax.specs.Expected.{signed_left, reason_left, numbers_left, places_left, atoms_left, pars_left, prefix_left, token, name, signed, reason, atom, tail, Expected, nothing, statement, steps, goal, next, takes, answer, proceed, start, goal_more, term_then, accepted, verdict}
-use Rattle.chyp_syntax.specs.Numbered.{NumberedToken, kind_of, BeginsWithKind, IsName}
+use Rattle.chyp_syntax.specs.Numbered.{NumberedToken, kind_of, IsName}
+use Rattle.chyp_syntax.specs.Beginning.{BeginsWithKind}
 use Rattle.chyp_syntax.specs.Sentence.{most_nested, AreNumbers, one_number, more_numbers, IsSwap, two_places, these_places, IsAtom, a_name, an_id, an_id0, a_swap, in_parentheses, AreAtoms, one_atom, more_atoms, IsPar, tensor, ArePars, one_par, more_pars, IsTerm, composite, IsSigned, forwards, backwards, AreSigned, one_signed, more_signed, IsReason, none, by_rule, by_simp, to_term, to_hole, AreSteps, no_step, last_hole, more_steps, IsStatement, is_gen, is_let, is_rule, is_rewrite, is_import, is_import_as, is_show}
 use Rattle.chyp_syntax.specs.Statement.{StatementTree}
 use Rattle.chyp_syntax.specs.Step.{StepTree}
 use Rattle.chyp_syntax.specs.Term.{TermTree}
-use Rattle.chyp_syntax.proofs.Verdicts.{same-self, verdict-step, verdict-done, symbol-takes, token-takes, name-takes, tail-takes, tail_skips}
+use Rattle.chyp_syntax.proofs.Verdicts.{same-self, verdict-step, verdict-done, symbol-takes, token-takes, name-takes, tail-takes, tail_skips, name-answers}
 use Rattle.chyp_syntax.proofs.Pieces.{reason_signed, goal_term}
 
 -- the list doesn't begin with the kind
@@ -40,10 +41,6 @@ swap-drive (these_places {word = x} {open' = y} z {places = ps} is open' are clo
     ∙ token-takes RightBracket e z rest close
 
 -- ---- terms
-
-name-answers : (depth : ℕ) (x : NumberedToken) → IsName x → answer (atom depth) (kind_of x) ≡ takes []
-name-answers depth x (inl k) = ap (answer (atom depth)) k
-name-answers depth x (inr k) = ap (answer (atom depth)) k
 
 mutual
   pub atom-drive : {depth : ℕ} {xs : List NumberedToken} {t : TermTree} → IsAtom depth xs t → (rest : List NumberedToken) (e : Expected) → Not LeftBracket rest →

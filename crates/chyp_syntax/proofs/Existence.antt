@@ -152,10 +152,10 @@ term-step depth inner xs is =
     (length xs) xs (omega arith) is in
     (chain_of w.0 w.1, composite w.2)
 
-no-less : (d : ℕ) → zero ≡ suc d → ⊥
+pub no-less : (d : ℕ) → zero ≡ suc d → ⊥
 no-less d e = omega (arith, e)
 
-one-less : (depth d : ℕ) → suc depth ≡ suc d → depth ≡ d
+pub one-less : (depth d : ℕ) → suc depth ≡ suc d → depth ≡ d
 one-less depth d e = omega (arith, e)
 
 pub term-tree : (depth : ℕ) → Inner depth

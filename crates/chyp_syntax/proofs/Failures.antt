@@ -6,7 +6,8 @@ use Rattle.std.specs.List.{enumerate_from}
 use Rattle.chyp_lex.specs.declared.token.TokenKind.TheVariants.{Ident}
 use Rattle.chyp_syntax.specs.Expected.{statement, Verdict, accepted, stopped, verdict}
 use Rattle.chyp_syntax.specs.Failing.{FailsAt, ArePrefixesClosed, IsSentenceOrFails}
-use Rattle.chyp_syntax.specs.Numbered.{Terminal, terminal_of, NumberedToken, numbered, words_from, tokens_from}
+use Rattle.chyp_syntax.specs.Numbered.{Terminal, terminal_of, NumberedToken, numbered}
+use Rattle.chyp_syntax.specs.Beginning.{words_from, tokens_from}
 use Rattle.chyp_syntax.specs.Words.{Word, words_of}
 use Rattle.chyp_syntax.specs.Sentence.{IsStatement, IsSentence, IsPrefix}
 use Rattle.chyp_syntax.specs.Statement.{statement_of}
@@ -16,6 +17,7 @@ use Rattle.chyp_syntax.proofs.Driving.{statement-drive}
 use Rattle.chyp_syntax.proofs.Halting.{Halts, halts, never_accepted, completes}
 use Rattle.chyp_syntax.proofs.Numbered.{length-terminals, length-numbered, length-words, same-numbered, words_from-at}
 use Rattle.chyp_syntax.proofs.Sentences.{statement-tree}
+use Rattle.chyp_syntax.proofs.Splits.{not-both}
 
 -- ---- numbering
 
@@ -49,9 +51,6 @@ front-of words k front le joined =
 
 -- ---- a chunk fails
 
-clash : (xs : List NumberedToken) → stopped xs ≡ accepted → ⊥
-clash xs e = cc
-
 can-go-on : (words : List Word) (k : ℕ) → k ≤ length words → Halts statement (numbered words) (words_from words k) → IsPrefix (take k words)
 can-go-on words k le h =
     let c = completes h.left (0 + length (take k words)) h.fine_left in
@@ -83,7 +82,7 @@ cannot-go-on words k is lt p =
 
 pub fails_at : (words : List Word) (k : ℕ) → k ≤ length words → verdict statement (numbered words) ≡ stopped (words_from words k) → FailsAt words k
 fails_at words k le is = record {
-  no_sentence = λ tree s. clash (words_from words k) (sym is ∙ statement-drive s.statement);
+  no_sentence = λ tree s. not-both (words_from words k) (sym is ∙ statement-drive s.statement);
   within = le;
   before = can-go-on words k le (halts (numbered words) statement (words_from words k) refl is);
   refused = cannot-go-on words k is;

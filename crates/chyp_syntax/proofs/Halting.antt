@@ -5,8 +5,10 @@ use Rattle.chyp_lex.specs.declared.token.TokenKind.{TokenKind}
 use Rattle.chyp_lex.specs.declared.token.TokenKind.TheVariants.{Ident, Dotted, Equals, Semicolon, Star, LeftParenthesis, LeftBracket, Comma, Minus, QuestionMark, WordGen, WordLet, WordRule, WordRewrite, WordImport, WordShow, WordId, WordId0, WordSw, WordBy, WordAs, WordSimp}
 use Rattle.chyp_syntax.specs.Expected.{Tail, signed_left, reason_left, numbers_left, places_left, atoms_left, pars_left, prefix_left, opener, behind, same_kind, name_answer, signed_answer, reason_answer, atom_answer, Symbol, token, name, signed, reason, atom, tail, Expected, nothing, statement, steps, goal, next, Answer, takes, skips, refuses, answer, proceed, onto, start, goal_more, step, ends, accepted, stopped, go_on, verdict}
 use Rattle.chyp_syntax.specs.Sentence.{most_nested}
-use Rattle.chyp_syntax.specs.Numbered.{Terminal, NumberedToken, kind_of, BeginsWithKind}
+use Rattle.chyp_syntax.specs.Numbered.{Terminal, NumberedToken, kind_of}
+use Rattle.chyp_syntax.specs.Beginning.{BeginsWithKind}
 use Rattle.chyp_syntax.proofs.Verdicts.{verdict-step, verdict-none, verdict-done, symbol-takes, token-takes, tail_skips}
+use Rattle.chyp_syntax.proofs.Splits.{not-both}
 
 -- the kinds that a tail begins with
 abbrev pub opens : TokenKind → Bool
@@ -172,9 +174,6 @@ halts (x ∷ xs) e ys ok is = go (λ e' fine' at. halts xs e' ys fine' at) (step
           halts = h.halts;
           fine_left = h.fine_left;
         }
-
-not-both : (xs : List NumberedToken) → stopped xs ≡ accepted → ⊥
-not-both xs e = cc
 
 -- nothing that goes on like the rest is accepted
 pub never_accepted : (e : Expected) (xs ys : List NumberedToken) (y : NumberedToken) (h : Halts e xs (y ∷ ys)) (zs : List NumberedToken) → verdict e (h.front ++ y ∷ zs) ≡ accepted → ⊥

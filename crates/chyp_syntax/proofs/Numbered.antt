@@ -1,13 +1,14 @@
 -- The numbered tokens from a place on, and what stands at their front.
-use Rattle.std.proofs.Common.{◌≡◌, ℕ, zero, suc, ◌+◌, ◌<◌, ◌≤◌, inl, inr, List, [], ◌∷◌, length, drop, map, get_or, refl, sym, ◌∙◌, ap, ap₂, subst, zero-add, arith}
-use Rattle.std.proofs.lemmas.List.{drop_more, drop_all, drop-drop, length-drop, length-map}
+use Rattle.std.proofs.Common.{◌≡◌, ℕ, zero, suc, ◌+◌, ◌<◌, ◌≤◌, inl, inr, List, [], ◌∷◌, length, map, get_or, refl, sym, ◌∙◌, ap, ap₂, subst, zero-add, arith}
+use Rattle.std.proofs.lemmas.List.{drop_more, drop_all, length-drop, length-map}
 use Rattle.std.specs.List.{enumerate_from}
 use Rattle.std.proofs.lemmas.List.FromFn.{length-enumerate_from, get_or-enumerate_from}
 use Rattle.std.proofs.lemmas.Option.{slice_get_cases}
 use Rattle.chyp_lex.specs.declared.token.Token.{Token}
 use Rattle.chyp_lex.specs.declared.token.TokenKind.{TokenKind}
 use Rattle.chyp_lex.specs.declared.token.TokenKind.TheVariants.{Number}
-use Rattle.chyp_syntax.specs.Numbered.{Terminal, terminal_of, NumberedToken, numbered, words_from, tokens_from, kind_of, value_of, BeginsWithKind, BeginsWithNumber}
+use Rattle.chyp_syntax.specs.Numbered.{Terminal, terminal_of, NumberedToken, numbered, kind_of, value_of}
+use Rattle.chyp_syntax.specs.Beginning.{words_from, tokens_from, BeginsWithKind, BeginsWithNumber}
 use Rattle.chyp_syntax.specs.Words.{Word, word_of, words_of}
 
 -- what the grammar sees of a token
@@ -78,14 +79,8 @@ kind_there kind xs ys x e is = subst (BeginsWithKind kind) e is
 pub nothing_begins : (kind : TokenKind) (xs : List NumberedToken) → xs ≡ [] → BeginsWithKind kind xs → ⊥
 nothing_begins kind xs e is = subst (BeginsWithKind kind) e is
 
-pub tokens_from-next : (tokens : List Token) (at : ℕ) → drop 1 (tokens_from tokens at) ≡ tokens_from tokens (at + 1)
-tokens_from-next tokens at = drop-drop 1 at (numbered (words_of [] tokens))
-
 pub more_there : (tokens : List Token) (at : ℕ) → at < length tokens → tokens_from tokens at ≡ [] → ⊥
 more_there tokens at lt e = omega (arith, ap length e, length-drop at (numbered (words_of [] tokens)), length-tokens tokens)
-
-pub length-tokens_from : (tokens : List Token) (at : ℕ) → length (tokens_from tokens at) ≤ length tokens
-length-tokens_from tokens at = omega (arith, length-drop at (numbered (words_of [] tokens)), length-tokens tokens)
 
 -- what stands at a place where a kind stands
 pub token_there : (tokens : List Token) (at : ℕ) (kind : TokenKind) → BeginsWithKind kind (tokens_from tokens at) →

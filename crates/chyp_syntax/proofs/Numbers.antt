@@ -3,7 +3,8 @@ use Rattle.std.proofs.Common.{◌≡◌, ℕ, ◌+◌, List, [], ◌∷◌, ◌+
 use Rattle.chyp_lex.specs.declared.token.Token.{Token}
 use Rattle.chyp_lex.specs.declared.token.TokenKind.TheVariants.{Number, Comma, WordSw, LeftBracket, RightBracket}
 use Rattle.chyp_syntax.specs.Expected.{Expected, next, token, tail, places_left, numbers_left, verdict}
-use Rattle.chyp_syntax.specs.Numbered.{NumberedToken, kind_of, value_of, tokens_from, BeginsWithKind, BeginsWithNumber}
+use Rattle.chyp_syntax.specs.Numbered.{NumberedToken, kind_of, value_of}
+use Rattle.chyp_syntax.specs.Beginning.{tokens_from, BeginsWithKind, BeginsWithNumber}
 use Rattle.chyp_syntax.specs.Reads.{BeginsWith}
 use Rattle.chyp_syntax.specs.Sentence.{AreNumbers, one_number, more_numbers, IsSwap, two_places, these_places}
 use Rattle.chyp_syntax.specs.Term.{swap}

@@ -6,9 +6,10 @@ use Rattle.chyp_syntax.specs.declared.step.ReasonAst.{ReasonAst}
 use Rattle.chyp_syntax.specs.declared.step.ReasonAst.TheVariants.{Rule, Simp}
 use Rattle.chyp_syntax.specs.declared.step.SignedAst.{SignedAst}
 use Rattle.chyp_syntax.specs.Failing.{HasOneTree}
-use Rattle.chyp_syntax.specs.Numbered.{NumberedToken, kind_of, value_of, BeginsWithKind, IsName}
+use Rattle.chyp_syntax.specs.Numbered.{NumberedToken, kind_of, value_of, IsName}
+use Rattle.chyp_syntax.specs.Beginning.{BeginsWithKind}
 use Rattle.chyp_syntax.specs.Sentence.{most_nested, IsTerm, IsSigned, forwards, backwards, AreSigned, one_signed, more_signed, IsReason, none, by_rule, by_simp, to_term, to_hole, AreSteps, no_step, last_hole, more_steps, IsStatement, is_gen, is_let, is_rule, is_rewrite, is_import, is_import_as, is_show}
-use Rattle.chyp_syntax.specs.Statement.{StatementTree, generator, definition, rule, rewrite, inclusion, showing}
+use Rattle.chyp_syntax.specs.Statement.{StatementTree, generator, abbreviation, rule, rewrite, inclusion, showing}
 use Rattle.chyp_syntax.specs.Step.{StepTree}
 use Rattle.chyp_syntax.specs.Words.{Word}
 use Rattle.chyp_syntax.specs.Term.{TermTree}
@@ -128,7 +129,7 @@ steps-one-way (more_steps {rest = r} {trees = ts} (to_term {equals = x} {term = 
 abbrev Reading : TokenKind → List NumberedToken → StatementTree → Type 0
 Reading WordGen ys t = (a : NumberedToken) × (b : NumberedToken) × (c : NumberedToken) × (d : NumberedToken) × (f : NumberedToken) × (ys ≡ a ∷ b ∷ c ∷ d ∷ f ∷ [])
     × (t ≡ generator a.0 (value_of c) (value_of f))
-Reading WordLet ys t = (a : NumberedToken) × (b : NumberedToken) × (zs : List NumberedToken) × (u : TermTree) × (ys ≡ a ∷ b ∷ zs) × IsTerm most_nested zs u × (t ≡ definition a.0 u)
+Reading WordLet ys t = (a : NumberedToken) × (b : NumberedToken) × (zs : List NumberedToken) × (u : TermTree) × (ys ≡ a ∷ b ∷ zs) × IsTerm most_nested zs u × (t ≡ abbreviation a.0 u)
 Reading WordRule ys t =
     (a : NumberedToken) × (b : NumberedToken) × (left : List NumberedToken) × (c : NumberedToken) × (right : List NumberedToken) × (u : TermTree) × (v : TermTree) ×
     (ys ≡ a ∷ b ∷ (left ++ c ∷ right)) × IsTerm most_nested left u × (kind_of c ≡ Equals) × IsTerm most_nested right v × (t ≡ rule a.0 u c.0 v)
@@ -150,7 +151,7 @@ reading (is_gen {word = w} {name = a} {colon = b} {dom = c} {arrow = d} {cod = f
     kinded WordGen (kind_of x) ys (generator a.0 (value_of c) (value_of f)) (ap kind_of (sym h.0) ∙ k0) (a, b, c, d, f, sym h.1, refl)
 reading (is_let {word = w} {name = a} {equals = b} {term = zs} {tree = u} k0 k1 k2 term) x ys e =
     let h = heads w x (a ∷ b ∷ zs) ys e in
-    kinded WordLet (kind_of x) ys (definition a.0 u) (ap kind_of (sym h.0) ∙ k0) (a, b, zs, u, sym h.1, term, refl)
+    kinded WordLet (kind_of x) ys (abbreviation a.0 u) (ap kind_of (sym h.0) ∙ k0) (a, b, zs, u, sym h.1, term, refl)
 reading (is_rule {word = w} {name = a} {colon = b} c {left = l} {right = r} {first = u} {second = v} k0 k1 k2 left k3 right) x ys e =
     let h = heads w x (a ∷ b ∷ (l ++ c ∷ r)) ys e in
     kinded WordRule (kind_of x) ys (rule a.0 u c.0 v) (ap kind_of (sym h.0) ∙ k0) (a, b, l, c, r, u, v, sym h.1, left, k3, right, refl)
@@ -182,7 +183,7 @@ same-reading WordLet ys t u p q =
     let h0 = heads p.0 q.0 (p.1 ∷ p.2) (q.1 ∷ q.2) (sym p.4 ∙ q.4) in
     let h1 = heads p.1 q.1 p.2 q.2 h0.1 in
     let terms = term-to-end p.2 q.2 p.3 q.3 p.5 q.5 h1.1 in
-    p.6 ∙ ap (λ (z : NumberedToken). definition z.0 p.3) h0.0 ∙ ap (definition q.0.0) terms ∙ sym q.6
+    p.6 ∙ ap (λ (z : NumberedToken). abbreviation z.0 p.3) h0.0 ∙ ap (abbreviation q.0.0) terms ∙ sym q.6
 same-reading WordRule ys t u p q =
     let h0 = heads p.0 q.0 (p.1 ∷ (p.2 ++ p.3 ∷ p.4)) (q.1 ∷ (q.2 ++ q.3 ∷ q.4)) (sym p.7 ∙ q.7) in
     let h1 = heads p.1 q.1 (p.2 ++ p.3 ∷ p.4) (q.2 ++ q.3 ∷ q.4) h0.1 in

@@ -7,7 +7,8 @@ use Rattle.chyp_syntax.specs.declared.step.ReasonAst.{ReasonAst}
 use Rattle.chyp_syntax.specs.declared.step.ReasonAst.TheVariants.{Plain, Rule, Simp}
 use Rattle.chyp_syntax.specs.declared.step.SignedAst.{SignedAst}
 use Rattle.chyp_syntax.specs.Expected.{reason_left, signed_left, Symbol, token, name, signed, reason, atom, tail, Expected, nothing, steps, goal, next, takes, answer, proceed, step, symbol_ends, ends, goal_more, term_then, stopped, go_on, verdict}
-use Rattle.chyp_syntax.specs.Numbered.{Terminal, NumberedToken, kind_of, tokens_from, BeginsWithKind, BeginsWithName, IsName}
+use Rattle.chyp_syntax.specs.Numbered.{Terminal, NumberedToken, kind_of, IsName}
+use Rattle.chyp_syntax.specs.Beginning.{tokens_from, BeginsWithKind, BeginsWithName}
 use Rattle.chyp_syntax.specs.Reads.{BeginsWith, Passes, StopsAt}
 use Rattle.chyp_syntax.specs.Sentence.{IsSigned, forwards, backwards, AreSigned, IsReason, none, by_rule, by_simp, most_nested, IsHole, to_hole}
 use Rattle.chyp_syntax.proofs.Numbered.{terminal, token_there, tokens_from-at, from-two, from-three}

@@ -5,15 +5,12 @@ use Rattle.chyp_lex.specs.declared.token.TokenKind.TheVariants.{Ident, Number, C
 use Rattle.chyp_syntax.specs.Expected.{same_kind, reason_left, atoms_left, pars_left, prefix_left, token, name, atom, tail, Expected, nothing, statement, steps, goal, next, answer, proceed, start, goal_more, term_then, accepted, stopped, go_on, verdict}
 use Rattle.chyp_syntax.specs.Numbered.{NumberedToken, kind_of, value_of}
 use Rattle.chyp_syntax.specs.Sentence.{most_nested, to_term, to_hole, AreSteps, no_step, last_hole, more_steps, IsStatement, is_gen, is_let, is_rule, is_rewrite, is_import, is_import_as, is_show}
-use Rattle.chyp_syntax.specs.Statement.{StatementTree, generator, definition, rule, rewrite, inclusion, showing}
+use Rattle.chyp_syntax.specs.Statement.{StatementTree, generator, abbreviation, rule, rewrite, inclusion, showing}
 use Rattle.chyp_syntax.specs.Step.{StepTree}
 use Rattle.chyp_syntax.proofs.Existence.{term-tree, reason-tree}
 use Rattle.chyp_syntax.proofs.Pieces.{goal_term}
-use Rattle.chyp_syntax.proofs.Splits.{split, one_token, one_name, one_tail, no_token}
+use Rattle.chyp_syntax.proofs.Splits.{split, one_token, one_name, one_tail, no_token, not-both}
 use Rattle.chyp_syntax.proofs.Verdicts.{same-kinds, same-self}
-
-not-both : (xs : List NumberedToken) → stopped xs ≡ accepted → ⊥
-not-both xs e = cc
 
 -- ---- steps
 
@@ -115,7 +112,7 @@ statement-cases WordLet x xs e is same at =
     let b = one_token Equals e3 a.1 a.4 in
     let term = term-tree most_nested b.1 b.4 in
     let joined : xs ≡ a.0 ∷ b.0 ∷ b.1 = a.2 ∙ ap (λ zs. a.0 ∷ zs) b.2 in
-    let tree = definition a.0.0 term.0 in
+    let tree = abbreviation a.0.0 term.0 in
     (tree, subst (λ zs. IsStatement (x ∷ zs) tree) (sym joined) (is_let {word = x} {name = a.0} {equals = b.0} is a.3 b.3 term.1))
 statement-cases WordRule x xs e is same at =
     let e4 = next (token Equals) (term_then most_nested nothing) in

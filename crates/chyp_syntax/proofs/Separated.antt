@@ -1,9 +1,10 @@
 -- Parts with a token between them, read one after the other.
-use Rattle.std.proofs.Common.{◌≡◌, ℕ, ◌+◌, List, [], ◌∷◌, ◌++◌, refl, sym, ◌∙◌, ap, subst, append_assoc, append-nil}
+use Rattle.std.proofs.Common.{◌≡◌, ℕ, ◌+◌, List, [], ◌∷◌, ◌++◌, sym, ◌∙◌, ap, subst, append_assoc, append-nil}
 use Rattle.chyp_lex.specs.declared.token.Token.{Token}
 use Rattle.chyp_lex.specs.declared.token.TokenKind.{TokenKind}
 use Rattle.chyp_syntax.specs.Expected.{Tail, opener, behind, tail, Expected, next, onto, verdict}
-use Rattle.chyp_syntax.specs.Numbered.{NumberedToken, kind_of, tokens_from, BeginsWithKind}
+use Rattle.chyp_syntax.specs.Numbered.{NumberedToken, kind_of}
+use Rattle.chyp_syntax.specs.Beginning.{tokens_from, BeginsWithKind}
 use Rattle.chyp_syntax.specs.Reads.{BeginsWith, Passes, Stops}
 use Rattle.chyp_syntax.proofs.Numbered.{token_there}
 use Rattle.chyp_syntax.proofs.Verdicts.{tail_passes, tail_skips}
@@ -12,9 +13,6 @@ use Rattle.chyp_syntax.proofs.Verdicts.{tail_passes, tail_skips}
 abbrev pub SoFar : {A : Type 0} → (List NumberedToken → List A → List ℕ → Type 0) → List NumberedToken → List NumberedToken → List A → List ℕ → Type 0
 SoFar {A} Are xs ys done marks =
     (front : List NumberedToken) × (xs ≡ front ++ ys) × ((more : List NumberedToken) (rest : List A) (ms : List ℕ) → Are more rest ms → Are (front ++ more) (done ++ rest) (marks ++ ms))
-
-pub so_far_none : {A : Type 0} (Are : List NumberedToken → List A → List ℕ → Type 0) (xs : List NumberedToken) → SoFar Are xs xs [] []
-so_far_none Are xs = ([], refl, λ more rest ms are. are)
 
 module _ {A : Type 0} (Is : List NumberedToken → A → Type 0) (Are : List NumberedToken → List A → List ℕ → Type 0) (kind : TokenKind) (mark : ℕ → List ℕ)
     (one : (a : List NumberedToken) (t : A) → Is a t → Are a (t ∷ []) [])

@@ -7,10 +7,8 @@ use Rattle.chyp_lex.specs.Tokens.{AreSpans, AreSpansFrom}
 use Rattle.chyp_syntax.specs.declared.chunk.Chunk.{Chunk}
 use Rattle.chyp_syntax.specs.Chunk.{AreChunks, Tile}
 use Rattle.chyp_syntax.specs.Heading.{chunk_tokens, token_start, end_of}
-
-pub spans_bound : (low high : ℕ) (tokens : List Token) → AreSpansFrom low high tokens → low ≤ high
-spans_bound low high [] h = h
-spans_bound low high (t ∷ ts) h = let rest = spans_bound (t.start + t.len) high ts h.2 in omega arith
+use Rattle.chyp_syntax.proofs.Tiling.{Tile-le}
+use Rattle.chyp_lex.proofs.TokenLists.{AreSpansFrom-le}
 
 pub spans_lower : (low lower high : ℕ) (tokens : List Token) → lower ≤ low → AreSpansFrom low high tokens → AreSpansFrom lower high tokens
 spans_lower low lower high [] le h = omega arith
@@ -23,7 +21,7 @@ spans_drop low high (suc n) (t ∷ ts) h =
     spans_lower (t.start + t.len) low high (drop n ts) (omega arith) (spans_drop (t.start + t.len) high n ts h.2)
 
 pub spans_take : (low high n : ℕ) (tokens : List Token) → AreSpansFrom low high tokens → AreSpansFrom low high (take n tokens)
-spans_take low high zero ts h = spans_bound low high ts h
+spans_take low high zero ts h = AreSpansFrom-le low high ts h
 spans_take low high (suc n) [] h = h
 spans_take low high (suc n) (t ∷ ts) h = (h.0, h.1, spans_take (t.start + t.len) high n ts h.2)
 
@@ -36,7 +34,7 @@ pub span_within : (low high k : ℕ) (t : Token) (tokens : List Token) → AreSp
     → (low ≤ t.start) × (t.start + t.len ≤ high)
 span_within low high k t [] h e = absurd cc
 span_within low high zero t (s ∷ ts) h e = let same : s ≡ t = cc in
-    let bound = spans_bound (s.start + s.len) high ts h.2 in
+    let bound = AreSpansFrom-le (s.start + s.len) high ts h.2 in
     let P : Token → Type 0 = λ x. (low ≤ x.start) × (x.start + x.len ≤ high) in subst P same (h.0, bound)
 span_within low high (suc k) t (s ∷ ts) h e = let rest = span_within (s.start + s.len) high k t ts h.2 e in (omega arith, rest.1)
 
@@ -84,17 +82,13 @@ starts_in_order low high zero (suc k) a b (t ∷ ts) h le e f =
 starts_in_order low high (suc j) zero a b (t ∷ ts) h le e f = absurd (omega arith)
 starts_in_order low high (suc j) (suc k) a b (t ∷ ts) h le e f = starts_in_order (t.start + t.len) high j k a b ts h.2 (omega arith) e f
 
-tile_bound : (start end : ℕ) (chunks : List Chunk) → Tile start chunks end → start ≤ end
-tile_bound start end [] h = omega arith
-tile_bound start end (chunk ∷ chunks) h = let rest = tile_bound (start + chunk.count) end chunks h.2 in omega arith
-
 -- a chunk lies between the two ends, and has a token
 pub tile_within : (start end k : ℕ) (chunk : Chunk) (chunks : List Chunk) → Tile start chunks end → slice_get chunks k ≡ Some chunk
     → (start ≤ chunk.first) × (0 < chunk.count) × (chunk.first + chunk.count ≤ end)
 tile_within start end k chunk [] h e = absurd cc
 tile_within start end zero chunk (c ∷ cs) h e =
     let same : c ≡ chunk = cc in
-    let rest = tile_bound (start + c.count) end cs h.2 in
+    let rest = Tile-le (start + c.count) end cs h.2 in
     subst (λ (x : Chunk). (start ≤ x.first) × (0 < x.count) × (x.first + x.count ≤ end)) same (omega arith, h.1, omega arith)
 tile_within start end (suc k) chunk (c ∷ cs) h e = let rest = tile_within (start + c.count) end k chunk cs h.2 e in (omega arith, rest.1, rest.2)
 

@@ -17,7 +17,7 @@ pub onto-append : (ss rs : List Symbol) (e : Expected) → onto (ss ++ rs) e ≡
 onto-append [] rs e = refl
 onto-append (s ∷ ss) rs e = ap (next s) (onto-append ss rs e)
 
-not-both : (xs : List NumberedToken) → stopped xs ≡ accepted → ⊥
+pub not-both : (xs : List NumberedToken) → stopped xs ≡ accepted → ⊥
 not-both xs e = cc
 
 end-accepts : (b : Bool) → (if b then accepted else stopped []) ≡ accepted → b ≡ true

@@ -4,10 +4,11 @@ use Rattle.chyp_lex.specs.declared.token.Token.{Token}
 use Rattle.chyp_lex.specs.declared.token.TokenKind.{TokenKind}
 use Rattle.chyp_lex.specs.declared.token.TokenKind.TheVariants.{Ident, Number, Colon, Arrow, Equals, WordGen, WordLet, WordRule, WordRewrite, WordImport, WordShow, WordAs}
 use Rattle.chyp_syntax.specs.Expected.{token, Expected, statement, next, start, stopped, verdict}
-use Rattle.chyp_syntax.specs.Numbered.{NumberedToken, kind_of, value_of, tokens_from, BeginsWithKind, BeginsWithName, BeginsWithNumber}
+use Rattle.chyp_syntax.specs.Numbered.{NumberedToken, kind_of, value_of}
+use Rattle.chyp_syntax.specs.Beginning.{tokens_from, BeginsWithKind, BeginsWithName, BeginsWithNumber}
 use Rattle.chyp_syntax.specs.Reads.{BeginsWith}
 use Rattle.chyp_syntax.specs.Sentence.{most_nested, IsTerm, AreSteps, IsStatement, is_gen, is_let, is_rule, is_rewrite, is_import, is_import_as, is_show}
-use Rattle.chyp_syntax.specs.Statement.{generator, definition, rule, rewrite, inclusion, showing}
+use Rattle.chyp_syntax.specs.Statement.{generator, abbreviation, rule, rewrite, inclusion, showing}
 use Rattle.chyp_syntax.specs.Step.{StepTree}
 use Rattle.chyp_syntax.specs.Term.{TermTree}
 use Rattle.chyp_syntax.proofs.Numbered.{token_there, number_kind}
@@ -63,7 +64,7 @@ gen_there tokens dom cod word name colon in' arrow out ended =
 
 pub let_there : (tokens : List Token) (end : ℕ) (tree : TermTree) → BeginsWithKind WordLet (tokens_from tokens 0) → BeginsWithKind Ident (tokens_from tokens 1)
     → BeginsWithKind Equals (tokens_from tokens 2) →
-    BeginsWith (IsTerm most_nested) (tokens_from tokens 3) (tokens_from tokens end) tree → tokens_from tokens end ≡ [] → IsStatement (tokens_from tokens 0) (definition 1 tree)
+    BeginsWith (IsTerm most_nested) (tokens_from tokens 3) (tokens_from tokens end) tree → tokens_from tokens end ≡ [] → IsStatement (tokens_from tokens 0) (abbreviation 1 tree)
 let_there tokens end tree word name equals term ended =
     let h0 = token_there tokens 0 WordLet word in
     let h1 = token_there tokens 1 Ident name in
@@ -72,7 +73,7 @@ let_there tokens end tree word name equals term ended =
     let x1 : NumberedToken = (1, h1.0) in
     let x2 : NumberedToken = (2, h2.0) in
     let all : tokens_from tokens 0 ≡ x0 ∷ x1 ∷ x2 ∷ tokens_from tokens 3 = h0.2 ∙ ap (λ ys. x0 ∷ ys) (h1.2 ∙ ap (λ ys. x1 ∷ ys) h2.2) in
-    subst (λ ys. IsStatement ys (definition 1 tree)) (sym all)
+    subst (λ ys. IsStatement ys (abbreviation 1 tree)) (sym all)
     (is_let {word = x0} {name = x1} {equals = x2} h0.3 h1.3 h2.3 (to_end (IsTerm most_nested) (tokens_from tokens 3) (tokens_from tokens end) tree term ended))
 
 pub rule_there : (tokens : List Token) (middle end : ℕ) (first second : TermTree) → BeginsWithKind WordRule (tokens_from tokens 0) → BeginsWithKind Ident (tokens_from tokens 1)

@@ -4,7 +4,8 @@ use Rattle.chyp_lex.specs.declared.token.Token.{Token}
 use Rattle.chyp_lex.specs.declared.token.TokenKind.TheVariants.{Ident, Equals, QuestionMark}
 use Rattle.chyp_syntax.specs.declared.step.ReasonAst.{ReasonAst}
 use Rattle.chyp_syntax.specs.Expected.{reason_left, atom, tail, answer, proceed, goal_more, nothing, steps, goal, next, term_then, stopped, verdict}
-use Rattle.chyp_syntax.specs.Numbered.{NumberedToken, kind_of, tokens_from, BeginsWithKind}
+use Rattle.chyp_syntax.specs.Numbered.{NumberedToken, kind_of}
+use Rattle.chyp_syntax.specs.Beginning.{tokens_from, BeginsWithKind}
 use Rattle.chyp_syntax.specs.Reads.{BeginsWith, StopsAt}
 use Rattle.chyp_syntax.specs.Sentence.{most_nested, IsTerm, IsReason, IsStep, to_term, IsHole, AreSteps, no_step, last_hole, more_steps}
 use Rattle.chyp_syntax.specs.Step.{StepTree}

@@ -26,7 +26,7 @@ Contains-single a k (suc i, within, same) = absurd (omega arith)
 
 -- ---- tilings
 
-Tile-le : (start end : ℕ) (chunks : List Chunk) → Tile start chunks end → start ≤ end
+pub Tile-le : (start end : ℕ) (chunks : List Chunk) → Tile start chunks end → start ≤ end
 Tile-le start end [] tile = omega arith
 Tile-le start end (c ∷ cs) tile = omega (arith, Tile-le (start + c.count) end cs tile.2)
 

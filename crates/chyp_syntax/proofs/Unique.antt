@@ -2,11 +2,13 @@
 use Rattle.std.proofs.Common.{◌≡◌, ℕ, zero, suc, List, [], ◌∷◌, ◌++◌, None, Some, inl, inr, ◌⊎◌, refl, sym, ◌∙◌, ap, ap₂, subst, arith, append_assoc}
 use Rattle.chyp_lex.specs.declared.token.TokenKind.{TokenKind}
 use Rattle.chyp_lex.specs.declared.token.TokenKind.TheVariants.{Ident, Dotted, Semicolon, Star, LeftParenthesis, RightParenthesis, LeftBracket, RightBracket, Comma, WordId, WordId0, WordSw}
-use Rattle.chyp_syntax.specs.Numbered.{NumberedToken, kind_of, value_of, BeginsWithKind}
+use Rattle.chyp_syntax.specs.Numbered.{NumberedToken, kind_of, value_of}
+use Rattle.chyp_syntax.specs.Beginning.{BeginsWithKind}
 use Rattle.chyp_syntax.specs.Sentence.{AreNumbers, one_number, more_numbers, IsSwap, two_places, these_places, IsAtom, a_name, an_id, an_id0, a_swap, in_parentheses, AreAtoms, one_atom, more_atoms, IsPar, tensor, ArePars, one_par, more_pars, IsTerm, composite}
 use Rattle.chyp_syntax.specs.Term.{TermTree, named, wire, empty, swap, tensor_of, chain_of}
 use Rattle.chyp_syntax.proofs.Driving.{Not, other}
 use Rattle.chyp_syntax.proofs.Numbers.{IsNumber, a_value}
+use Rattle.chyp_syntax.proofs.Existence.{no-less, one-less}
 
 pub heads : (x y : NumberedToken) (xs ys : List NumberedToken) → x ∷ xs ≡ y ∷ ys → (x ≡ y) × (xs ≡ ys)
 heads x y xs ys e = let first : x ≡ y = cc in let rest : xs ≡ ys = cc in (first, rest)
@@ -193,12 +195,6 @@ term-one-way-step depth inner a b r s _ _ (composite {trees = ts} {semis = ms} a
     let w = parts-one-way (IsPar depth) Semicolon ParEnds (λ x xs k. (other Semicolon LeftBracket x xs k (λ c. cc), other Semicolon Star x xs k (λ c. cc))) (par-one-way depth inner)
     (pars-parts are) b r s us ns (pars-parts are') (er.0, er.1) (es.0, es.1) er.2 es.2 e in
     (ap₂ chain_of w.0 w.1, w.2)
-
-no-less : (d : ℕ) → zero ≡ suc d → ⊥
-no-less d e = omega (arith, e)
-
-one-less : (depth d : ℕ) → suc depth ≡ suc d → depth ≡ d
-one-less depth d e = omega (arith, e)
 
 pub term-one-way : (depth : ℕ) → TermOneWay depth
 term-one-way zero = term-one-way-step zero (λ d e. absurd (no-less d e))

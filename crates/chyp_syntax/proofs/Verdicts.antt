@@ -5,8 +5,9 @@ use Rattle.chyp_lex.specs.contracts.token.TokenKind.{the_type}
 use Rattle.chyp_lex.specs.declared.token.Token.{Token}
 use Rattle.chyp_lex.specs.declared.token.TokenKind.{TokenKind}
 use Rattle.chyp_lex.specs.declared.token.TokenKind.TheVariants.{Ident, Dotted}
-use Rattle.chyp_syntax.specs.Expected.{same_kind, Tail, opener, behind, Symbol, token, name, tail, Expected, next, takes, skips, refuses, answer, proceed, onto, step, symbol_ends, ends, accepted, stopped, go_on, verdict}
-use Rattle.chyp_syntax.specs.Numbered.{NumberedToken, kind_of, tokens_from, BeginsWithKind, BeginsWithName, IsName}
+use Rattle.chyp_syntax.specs.Expected.{same_kind, Tail, opener, behind, Symbol, token, name, atom, tail, Expected, next, takes, skips, refuses, answer, proceed, onto, step, symbol_ends, ends, accepted, stopped, go_on, verdict}
+use Rattle.chyp_syntax.specs.Numbered.{NumberedToken, kind_of, IsName}
+use Rattle.chyp_syntax.specs.Beginning.{tokens_from, BeginsWithKind, BeginsWithName}
 use Rattle.chyp_syntax.specs.Reads.{Stops}
 use Rattle.chyp_syntax.proofs.Numbered.{token_there}
 
@@ -100,3 +101,8 @@ tail_passes tokens at t e begins =
 pub stops_here : (tokens : List Token) (at k : ℕ) (symbols : Expected → Expected) → at ≤ length tokens → at ≡ k →
     ((e : Expected) → verdict (symbols e) (tokens_from tokens at) ≡ stopped (tokens_from tokens at)) → Stops symbols tokens at k
 stops_here tokens at k symbols within same stops = subst (λ n. Stops symbols tokens at n) same (within, stops)
+
+-- a name stands for an atom
+pub name-answers : (depth : ℕ) (x : NumberedToken) → IsName x → answer (atom depth) (kind_of x) ≡ takes []
+name-answers depth x (inl k) = ap (answer (atom depth)) k
+name-answers depth x (inr k) = ap (answer (atom depth)) k

@@ -1,3 +1,4 @@
+pub mod Beginning
 pub mod Chunk
 pub mod Expected
 pub mod Failing

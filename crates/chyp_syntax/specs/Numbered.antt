@@ -1,10 +1,9 @@
 -- What the grammar sees of words, numbered from 0.
-use Rattle.std.specs.Prelude.{◌≡◌, ℕ, ◌⊎◌, List, [], ◌∷◌, drop, map}
+use Rattle.std.specs.Prelude.{◌≡◌, ℕ, ◌⊎◌, List, map}
 use Rattle.std.specs.List.{enumerate_from}
-use Rattle.chyp_lex.specs.declared.token.Token.{Token}
 use Rattle.chyp_lex.specs.declared.token.TokenKind.{TokenKind}
-use Rattle.chyp_lex.specs.declared.token.TokenKind.TheVariants.{Ident, Dotted, Number}
-use Rattle.chyp_syntax.specs.Words.{Word, words_of}
+use Rattle.chyp_lex.specs.declared.token.TokenKind.TheVariants.{Ident, Dotted}
+use Rattle.chyp_syntax.specs.Words.{Word}
 
 -- a terminal symbol of the grammar: the kind of a word, and its value
 pub record Terminal : Type 0 where
@@ -23,22 +22,9 @@ NumberedToken = ℕ × Terminal
 abbrev pub numbered : List Word → List NumberedToken
 numbered words = enumerate_from 0 (map terminal_of words)
 
--- those from the place on
-abbrev pub words_from : List Word → ℕ → List NumberedToken
-words_from words at = drop at (numbered words)
-
--- those of tokens, for which no text is needed
-abbrev pub tokens_from : List Token → ℕ → List NumberedToken
-tokens_from tokens at = words_from (words_of [] tokens) at
-
 -- the kind of a terminal symbol
 abbrev pub kind_of : NumberedToken → TokenKind
 kind_of at = at.1.kind
-
--- the first token is of the kind
-abbrev pub BeginsWithKind : TokenKind → List NumberedToken → Type 0
-BeginsWithKind kind [] = ⊥
-BeginsWithKind kind (token ∷ tokens) = kind_of token ≡ kind
 
 -- the value of a number
 abbrev pub value_of : NumberedToken → ℕ
@@ -47,13 +33,3 @@ value_of at = at.1.value
 -- name := Ident | Dotted
 abbrev pub IsName : NumberedToken → Type 0
 IsName word = (kind_of word ≡ Ident) ⊎ (kind_of word ≡ Dotted)
-
--- the first token is a name
-abbrev pub BeginsWithName : List NumberedToken → Type 0
-BeginsWithName [] = ⊥
-BeginsWithName (token ∷ tokens) = IsName token
-
--- the first token is a number of this value
-abbrev pub BeginsWithNumber : ℕ → List NumberedToken → Type 0
-BeginsWithNumber value [] = ⊥
-BeginsWithNumber value (token ∷ tokens) = (kind_of token ≡ Number) × (value ≡ value_of token)

@@ -1,7 +1,8 @@
 -- What the private readers of this crate promise.
 use Rattle.std.specs.Prelude.{◌≡◌, ℕ, ◌≤◌, List, ◌++◌, length}
 use Rattle.chyp_lex.specs.declared.token.Token.{Token}
-use Rattle.chyp_syntax.specs.Numbered.{NumberedToken, tokens_from}
+use Rattle.chyp_syntax.specs.Numbered.{NumberedToken}
+use Rattle.chyp_syntax.specs.Beginning.{tokens_from}
 use Rattle.chyp_syntax.specs.Expected.{Expected, verdict, stopped}
 
 -- tokens that are one thing of the grammar, and the rest behind them

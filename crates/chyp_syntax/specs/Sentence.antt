@@ -6,7 +6,7 @@ use Rattle.chyp_syntax.specs.declared.step.ReasonAst.TheVariants.{Plain, Rule, S
 use Rattle.chyp_syntax.specs.declared.step.SignedAst.{SignedAst}
 use Rattle.chyp_syntax.specs.declared.terms.TheConstants.{MOST_NESTED}
 use Rattle.chyp_syntax.specs.Numbered.{NumberedToken, numbered, kind_of, value_of, IsName}
-use Rattle.chyp_syntax.specs.Statement.{StatementTree, generator, definition, rule, rewrite, inclusion, showing}
+use Rattle.chyp_syntax.specs.Statement.{StatementTree, generator, abbreviation, rule, rewrite, inclusion, showing}
 use Rattle.chyp_syntax.specs.Step.{StepTree}
 use Rattle.chyp_syntax.specs.Term.{TermTree, named, wire, empty, swap, chain_of, tensor_of}
 use Rattle.chyp_syntax.specs.Words.{Word}
@@ -114,7 +114,7 @@ pub data IsStatement : List NumberedToken → StatementTree → Type 0 where
   -- "let" Ident "=" term
   is_let : {word name equals : NumberedToken} {term : List NumberedToken} {tree : TermTree} →
       kind_of word ≡ WordLet → kind_of name ≡ Ident → kind_of equals ≡ Equals → IsTerm most_nested term tree →
-      IsStatement (word ∷ name ∷ equals ∷ term) (definition name.0 tree)
+      IsStatement (word ∷ name ∷ equals ∷ term) (abbreviation name.0 tree)
   -- "rule" Ident ":" term "=" term
   is_rule : {word name colon : NumberedToken} (equals : NumberedToken) {left right : List NumberedToken} {first second : TermTree} →
       kind_of word ≡ WordRule → kind_of name ≡ Ident → kind_of colon ≡ Colon → IsTerm most_nested left first → kind_of equals ≡ Equals

@@ -3,7 +3,7 @@ ghost use Rattle.std.specs.Prelude.{◌≡◌, ℕ, ◌^◌, ◌<◌, length, Li
 ghost use Rattle.chyp_lex.specs.declared.token.Token.{Token};
 ghost use Rattle.chyp_syntax.specs.Expected.{statement};
 ghost use Rattle.chyp_syntax.specs.Failing.{FailsAt};
-ghost use Rattle.chyp_syntax.specs.Numbered.{tokens_from, BeginsWithKind};
+ghost use Rattle.chyp_syntax.specs.Beginning.{tokens_from, BeginsWithKind};
 ghost use Rattle.chyp_syntax.specs.Reads.{StopsAt};
 ghost use Rattle.chyp_syntax.specs.Sentence.{IsStatement, IsSentence};
 ghost use Rattle.chyp_syntax.specs.Statement.{statement_of};

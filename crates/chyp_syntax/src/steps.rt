@@ -1,7 +1,7 @@
 // The steps of a rewrite at a place, and what they rest on.
 ghost use Rattle.std.specs.Prelude.{◌≡◌, ℕ, ◌+◌, ◌^◌, ◌<◌, ◌≤◌, [], length, map, IfOk, Err};
 ghost use Rattle.chyp_syntax.specs.Expected.{next, signed, reason, tail, reason_left, signed_left, nothing, steps, term_then};
-ghost use Rattle.chyp_syntax.specs.Numbered.{tokens_from, BeginsWithKind};
+ghost use Rattle.chyp_syntax.specs.Beginning.{tokens_from, BeginsWithKind};
 ghost use Rattle.chyp_syntax.specs.Reads.{BeginsWith, Passes, Stops, StopsAt};
 ghost use Rattle.chyp_syntax.specs.Sentence.{IsSigned, AreSigned, IsReason, IsStep, IsHole, AreSteps, most_nested};
 ghost use Rattle.chyp_syntax.specs.Step.{step_of};

@@ -1,7 +1,7 @@
 // Terms at a place.
 ghost use Rattle.std.specs.Prelude.{◌≡◌, ℕ, ◌+◌, ◌^◌, ◌<◌, ◌≤◌, [], ◌∷◌, ◌++◌, length, map, IfOk, Err};
 ghost use Rattle.chyp_syntax.specs.Expected.{next, token, atom, tail, places_left, numbers_left, atoms_left, term_then};
-ghost use Rattle.chyp_syntax.specs.Numbered.{tokens_from, BeginsWithKind};
+ghost use Rattle.chyp_syntax.specs.Beginning.{tokens_from, BeginsWithKind};
 ghost use Rattle.chyp_syntax.specs.Reads.{BeginsWith, Passes, Stops};
 ghost use Rattle.chyp_syntax.specs.Sentence.{AreNumbers, IsSwap, IsAtom, IsPar, IsTerm};
 ghost use Rattle.chyp_syntax.specs.Term.{tree_of, tensor_of, chain_of};

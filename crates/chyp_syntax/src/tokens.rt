@@ -1,7 +1,7 @@
 // Single tokens at a place.
 ghost use Rattle.std.specs.Prelude.{◌≡◌, ℕ, ◌+◌, ◌^◌, ◌<◌, ◌≤◌, ◌↔◌, length, IfOk, OnOk, IsTrue, Err, []};
 ghost use Rattle.chyp_syntax.specs.Expected.{next, token, name};
-ghost use Rattle.chyp_syntax.specs.Numbered.{tokens_from, BeginsWithKind, BeginsWithName, BeginsWithNumber};
+ghost use Rattle.chyp_syntax.specs.Beginning.{tokens_from, BeginsWithKind, BeginsWithName, BeginsWithNumber};
 ghost use Rattle.chyp_syntax.specs.Reads.{Stops};
 
 use crate::ParseError;

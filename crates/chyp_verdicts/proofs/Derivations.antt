@@ -3,7 +3,7 @@ use Rattle.std.proofs.Common.{◌≡◌, List, [], ◌∷◌, ◌++◌, All, ref
 use Rattle.std.specs.Prelude.{Contains}
 use Rattle.std.proofs.lemmas.List.Elements.{All-append, All-nil, All-head, All-tail, Contains-append_left, Contains-append_right}
 use Rattle.chyp_term.specs.Derivation.{Derives, IsEquation, same, back, chain, in_then, in_beside, by_law, given, identity}
-use Rattle.chyp_term.specs.Morphism.{Morphism, then, beside, IsTyped}
+use Rattle.chyp_term.specs.Morphism.{Morphism, then, beside}
 use Rattle.chyp_term.specs.Rewriting.{RewritesInContext}
 use Rattle.chyp_theory.proofs.Wires.{derivation_equation}
 use Rattle.chyp_env.specs.Environment.{Origin}
@@ -41,26 +41,15 @@ context-derives l r t u is c =
     in_then (same typed.0) (in_then inner (same typed.1.1) typed.1.2) typed.2 in
     chain before (chain middle (back after))
 
--- ---- laws that rest on rules
+-- ---- equations that rest on rules
 
--- a law that rests on no more is derived as well
+-- an equation that rests on no more is derived as well
 pub derived-along : (Stands : Standing) (o p : Origin) → ((e : Equation) → Permits Stands o e → Permits Stands p e) → (l r : Morphism) → IsDerived Stands o l r
     → IsDerived Stands p l r
 derived-along Stands o p more l r d = record { rules = d.rules; permitted = λ k x h. more _ (d.permitted k x h); derivation = d.derivation }
 
-pub derived-same : (Stands : Standing) (o : Origin) (t : Morphism) → IsTyped t → IsDerived Stands o t t
-derived-same Stands o t typed = record { rules = []; permitted = All-nil _; derivation = same typed }
-
 pub derived-back : (Stands : Standing) (o : Origin) (s t : Morphism) → IsDerived Stands o s t → IsDerived Stands o t s
 derived-back Stands o s t d = record { rules = d.rules; permitted = d.permitted; derivation = back d.derivation }
-
-pub derived-chain : (Stands : Standing) (o : Origin) (s t u : Morphism) → IsDerived Stands o s t → IsDerived Stands o t u → IsDerived Stands o s u
-derived-chain Stands o s t u d e = record {
-  rules = d.rules ++ e.rules;
-  permitted = All-append (Permits Stands o) d.rules e.rules d.permitted e.permitted;
-  derivation = chain (weaken (d.rules ++ e.rules) d.rules (λ x c. Contains-append_left d.rules e.rules x c) d.derivation)
-      (weaken (d.rules ++ e.rules) e.rules (λ x c. Contains-append_right d.rules e.rules x c) e.derivation);
-}
 
 -- rules that prove all of some equations
 record Together (Stands : Standing) (o : Origin) (F : List Equation) : Type 0 where

@@ -24,9 +24,10 @@ use Rattle.chyp_verdicts.specs.Rules.{Cites, IsRewriteOf, Permits, RestsOn, by_n
 use Rattle.chyp_verdicts.specs.Standing.{Gets, Standing}
 use Rattle.chyp_verdicts.specs.Steps.{IsVerdictOnSteps, StopsWith, proved, refusal_at, stops, unfinished}
 use Rattle.chyp_env.proofs.Bindings.{binding-found}
-use Rattle.chyp_verdicts.proofs.Derived.{AreLawsDerived, rewrite-derived}
+use Rattle.chyp_verdicts.proofs.Derived.{AreEquationsDerived, rewrite-derived}
 use Rattle.chyp_verdicts.proofs.Known.{Known}
-use Rattle.chyp_verdicts.proofs.SomeBinding.{is_refusal, last-there, refused-is, goals_at}
+use Rattle.chyp_verdicts.proofs.SomeBinding.{is_refusal, last-there, refused-is}
+use Rattle.chyp_names.proofs.Closing.{goals_at}
 
 abbrev Equation : Type 0
 Equation = Morphism × Morphism
@@ -34,7 +35,7 @@ Equation = Morphism × Morphism
 -- what is known of statements, and of which stand before which
 pub record AreInOrder (Stands : Standing) (Before : Order) : Type 0 where
   pub sound : (o : Origin) (s : Site) → Stands o s → IsSound s.scope.env
-  pub laws : (o : Origin) (s : Site) → Stands o s → AreLawsDerived Stands s.scope.env
+  pub laws : (o : Origin) (s : Site) → Stands o s → AreEquationsDerived Stands s.scope.env
   pub one : (o : Origin) (s t : Site) → Stands o s → Stands o t → s ≡ t
   pub cited : (o : Origin) (s : Site) (b : Binding) → Stands o s → Contains s.scope.env b → Before b.origin o
   pub chain : (o p q : Origin) → Before o p → Before p q → Before o q

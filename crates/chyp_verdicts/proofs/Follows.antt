@@ -29,7 +29,8 @@ use Rattle.chyp_simp.specs.Laws.{AreEquations, IsUsable}
 use Rattle.chyp_verdicts.proofs.Judgements.{judgement-sound}
 use Rattle.chyp_verdicts.proofs.Known.{Known}
 use Rattle.chyp_verdicts.proofs.OneVerdict.{some-once}
-use Rattle.chyp_verdicts.proofs.SomeBinding.{goals_at, refusal-bad, refused-bad}
+use Rattle.chyp_verdicts.proofs.SomeBinding.{refusal-bad, refused-bad}
+use Rattle.chyp_names.proofs.Closing.{goals_at}
 
 -- the rules behind the reason are equations among those
 abbrev IsAmong : List Equation → Reason → Type 0

@@ -9,7 +9,7 @@ use Rattle.chyp_syntax.specs.Failing.{ArePrefixesClosed, HasOneTree, IsSentenceO
 use Rattle.chyp_term.specs.Derivation.{IsEquation}
 use Rattle.chyp_term.specs.Morphism.{Morphism, cod, dom, IsTyped}
 use Rattle.chyp_theory.specs.Laws.{PermutationsAreDecided, SortsAreDecided}
-use Rattle.chyp_env.specs.Environment.{Sense, generator, abbreviation, law, unproved, broken}
+use Rattle.chyp_env.specs.Environment.{Sense, generator, abbreviation, equation, unproved, broken}
 use Rattle.chyp_env.specs.Scope.{term_of}
 use Rattle.chyp_env.specs.Sound.{IsSoundSense}
 use Rattle.chyp_env.specs.Typing.{Condition, Holds, permutes, meets, agrees}
@@ -39,7 +39,7 @@ conditions_decided sorts permutations (agrees first other) = go (sorts (dom firs
 sense-typed : (sense : Sense) → IsSoundSense sense → IsTyped (term_of sense)
 sense-typed (generator name dom cod) h = tt
 sense-typed (abbreviation term) h = h.0
-sense-typed (law first last) h = no_place
+sense-typed (equation first last) h = no_place
 sense-typed unproved h = no_place
 sense-typed broken h = no_place
 

@@ -2,13 +2,13 @@
 use Rattle.std.proofs.Common.{◌≡◌, ℕ, ◌-◌, ◌&&◌, if◌then◌else◌, IsTrue, List, [], ◌∷◌, ◌++◌, length, Option, Some, None, slice_get, refl, sym, ◌∙◌, ap, ap₂, subst}
 use Rattle.chyp_base.specs.declared.verdict.Verdict.{Verdict}
 use Rattle.chyp_base.specs.declared.verdict.Verdict.TheVariants.{Accepted}
-use Rattle.chyp_lex.specs.declared.token.TokenKind.{TokenKind}
-use Rattle.chyp_lex.specs.declared.token.TokenKind.TheVariants.{WordGen, WordLet, WordRule, WordRewrite, WordImport, WordShow}
+use Rattle.chyp_lex.specs.declared.token.TokenKind.TheVariants.{WordRewrite, WordImport}
 use Rattle.chyp_syntax.specs.Failing.{HasOneTree}
 use Rattle.chyp_syntax.specs.Heading.{declared_name, declares, is_identifier}
-use Rattle.chyp_syntax.specs.Numbered.{NumberedToken, numbered, BeginsWithKind}
+use Rattle.chyp_syntax.specs.Numbered.{NumberedToken, numbered}
+use Rattle.chyp_syntax.specs.Beginning.{BeginsWithKind}
 use Rattle.chyp_syntax.specs.Sentence.{IsSentence, IsStatement, is_gen, is_let, is_rule, is_rewrite, is_import, is_import_as, is_show}
-use Rattle.chyp_syntax.specs.Statement.{StatementTree, generator as a_gen, definition, rule, rewrite, inclusion, showing}
+use Rattle.chyp_syntax.specs.Statement.{StatementTree, generator as a_gen, abbreviation, rule, rewrite, inclusion}
 use Rattle.chyp_syntax.specs.Words.{Word}
 use Rattle.chyp_term.specs.Morphism.{Morphism, generator as a_generator}
 use Rattle.chyp_env.specs.Environment.{Sense, Binding, is_bound}
@@ -18,17 +18,9 @@ use Rattle.chyp_names.specs.Binding.{Binds, nothing, again, anew, imports, Takes
 use Rattle.chyp_names.specs.Binding.{StandsFor, a_declared_generator, a_term, a_rule, a_proved_rewrite, an_unproved_rewrite, a_broken_statement}
 use Rattle.chyp_names.specs.Elaboration.{prefix_at, terms_of}
 use Rattle.chyp_verdicts.proofs.OneVerdict.{none-some, some-once, true-false}
+use Rattle.chyp_names.proofs.Made.{keyword_for}
 
--- the keyword of a statement
-abbrev pub keyword_of_tree : StatementTree → TokenKind
-keyword_of_tree (a_gen name dom cod) = WordGen
-keyword_of_tree (definition name tree) = WordLet
-keyword_of_tree (rule name left equals right) = WordRule
-keyword_of_tree (rewrite name first steps) = WordRewrite
-keyword_of_tree (inclusion imported prefix) = WordImport
-keyword_of_tree (showing name) = WordShow
-
-statement-begins : (tokens : List NumberedToken) (tree : StatementTree) → IsStatement tokens tree → BeginsWithKind (keyword_of_tree tree) tokens
+statement-begins : (tokens : List NumberedToken) (tree : StatementTree) → IsStatement tokens tree → BeginsWithKind (keyword_for tree) tokens
 statement-begins tokens tree (is_gen k n c d a e) = k
 statement-begins tokens tree (is_let k n e t) = k
 statement-begins tokens tree (is_rule equals k n c l e r) = k
@@ -38,17 +30,17 @@ statement-begins tokens tree (is_import_as k n a p) = k
 statement-begins tokens tree (is_show k n) = k
 
 -- the first token of a sentence is its keyword
-pub sentence-begins : (tokens : List Word) (tree : StatementTree) → IsSentence tokens tree → (t : Word) × (rest : List Word) × (tokens ≡ t ∷ rest) × (t.kind ≡ keyword_of_tree tree)
+pub sentence-begins : (tokens : List Word) (tree : StatementTree) → IsSentence tokens tree → (t : Word) × (rest : List Word) × (tokens ≡ t ∷ rest) × (t.kind ≡ keyword_for tree)
 sentence-begins [] tree s = absurd (statement-begins (numbered []) tree s.statement)
 sentence-begins (t ∷ ts) tree s = (t, ts, refl, statement-begins (numbered (t ∷ ts)) tree s.statement)
 
 -- a sentence is a rewrite exactly where its keyword is that of one
-pub sentence-is_rewrite : (tokens : List Word) (tree : StatementTree) → IsSentence tokens tree → IsRewrite tokens → keyword_of_tree tree ≡ WordRewrite
+pub sentence-is_rewrite : (tokens : List Word) (tree : StatementTree) → IsSentence tokens tree → IsRewrite tokens → keyword_for tree ≡ WordRewrite
 sentence-is_rewrite tokens tree s r =
     let b = sentence-begins tokens tree s in
     sym b.3 ∙ subst IsRewrite b.2 r
 
-pub rewrite-begins : (tokens : List Word) (tree : StatementTree) → IsSentence tokens tree → keyword_of_tree tree ≡ WordRewrite → IsRewrite tokens
+pub rewrite-begins : (tokens : List Word) (tree : StatementTree) → IsSentence tokens tree → keyword_for tree ≡ WordRewrite → IsRewrite tokens
 rewrite-begins tokens tree s e =
     let b = sentence-begins tokens tree s in
     subst IsRewrite (sym b.2) (b.3 ∙ e)
@@ -68,7 +60,7 @@ stands-once one s v a b (a_declared_generator t e) (an_unproved_rewrite r p) = l
 stands-once one s v a b (a_declared_generator t e) (a_broken_statement r p) = absurd (p refl)
 stands-once one s v a b (a_term t e) (a_declared_generator u f) = let trees = one s.scope.words _ _ t u in absurd cc
 stands-once one s v a b (a_term {name} {tree} {term} t e) (a_term {name = n} {tree = r} {term = m} u f) =
-    let trees = one s.scope.words (definition name tree) (definition n r) t u in
+    let trees = one s.scope.words (abbreviation name tree) (abbreviation n r) t u in
     let both : ◌≡◌ {A = List Morphism} (term ∷ []) (m ∷ []) = sym e ∙ ap (terms_of s) trees ∙ f in
     cc
 stands-once one s v a b (a_term t e) (a_rule u f) = let trees = one s.scope.words _ _ t u in absurd cc
@@ -113,13 +105,13 @@ imports-nothing s imported prefix declares t e =
     let b = sentence-begins s.scope.words (inclusion imported prefix) t in
     none-some _ declares (import-declares b.0 b.1 b.3) (ap declared_name (sym b.2) ∙ e)
 
-takes-in : (i : Imported) (v : Verdict) (env : List Binding) → i ≡ there env → v ≡ Accepted → TakesIn i v
+pub takes-in : (i : Imported) (v : Verdict) (env : List Binding) → i ≡ there env → v ≡ Accepted → TakesIn i v
 takes-in i v env e f = subst (λ x. TakesIn x v) (sym e) (subst (TakesIn (there env)) (sym f) tt)
 
-inclusion-prefix : (word w : ℕ) (as_word a : Option ℕ) → inclusion word as_word ≡ inclusion w a → as_word ≡ a
+pub inclusion-prefix : (word w : ℕ) (as_word a : Option ℕ) → inclusion word as_word ≡ inclusion w a → as_word ≡ a
 inclusion-prefix word w as_word a e = cc
 
-there-once : (env end : List Binding) → there env ≡ there end → env ≡ end
+pub there-once : (env end : List Binding) → there env ≡ there end → env ≡ end
 there-once env end e = cc
 
 -- a statement binds in one way

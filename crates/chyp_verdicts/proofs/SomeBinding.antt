@@ -1,6 +1,6 @@
 -- Each statement that has its verdict binds, and what names stand for stays sound.
 use Rattle.std.proofs.Common.{◌≡◌, ℕ, zero, suc, ◌+◌, ◌-◌, ◌≤◌, Bool, true, false, ◌&&◌, if◌then◌else◌, List, [], ◌∷◌, length}
-use Rattle.std.proofs.Common.{map, replicate, Option, Some, None, slice_get, slice_index_or, ◌⊎◌, inl, inr, refl, sym, ◌∙◌, ap, subst, arith}
+use Rattle.std.proofs.Common.{replicate, Option, Some, None, slice_get, slice_index_or, ◌⊎◌, inl, inr, refl, sym, ◌∙◌, ap, subst, arith}
 use Rattle.std.proofs.lemmas.Bool.{false≢true}
 use Rattle.std.specs.List.{cons_option, filter_map}
 use Rattle.chyp_base.specs.Sort.{plain}
@@ -11,7 +11,7 @@ use Rattle.chyp_lex.specs.declared.token.TokenKind.TheVariants.{WordRewrite, Wor
 use Rattle.chyp_syntax.specs.Expected.{same_kind}
 use Rattle.chyp_syntax.specs.Heading.{declared_name, declares, is_identifier}
 use Rattle.chyp_syntax.specs.Sentence.{IsSentence}
-use Rattle.chyp_syntax.specs.Statement.{StatementTree, generator as a_gen, definition, rule, rewrite, inclusion, showing}
+use Rattle.chyp_syntax.specs.Statement.{StatementTree, generator as a_gen, abbreviation as a_let, rule, rewrite, inclusion, showing}
 use Rattle.chyp_syntax.specs.Step.{StepTree}
 use Rattle.chyp_syntax.specs.Term.{TermTree}
 use Rattle.chyp_syntax.specs.Words.{Word, bytes_at}
@@ -19,7 +19,7 @@ use Rattle.chyp_term.specs.Derivation.{IsEquation}
 use Rattle.chyp_term.specs.Morphism.{Morphism}
 use Rattle.chyp_term.specs.Step.{Reason}
 use Rattle.chyp_env.specs.Expansion.{plain_wires}
-use Rattle.chyp_env.specs.Environment.{Sense, generator, abbreviation, law, unproved, broken, Binding}
+use Rattle.chyp_env.specs.Environment.{Sense, generator, abbreviation, equation, unproved, broken, Binding}
 use Rattle.chyp_term.specs.Limits.{IsWithinLimits}
 use Rattle.std.specs.Option.{option_map}
 use Rattle.chyp_env.specs.Import.{all_passed_on, first_clash}
@@ -30,7 +30,6 @@ use Rattle.chyp_names.specs.Binding.{IsRewrite, StandsFor, a_declared_generator,
 use Rattle.chyp_names.specs.Elaboration.{Passes, has_hole, steps_at, IsRefused, fault_of_module, import_fault, prefix_at, declared}
 use Rattle.chyp_names.specs.Elaboration.{at_import, at_name, too_big, mistyped, unproved as rests_on_unproved, expansion_at, generator_name, terms_of}
 use Rattle.chyp_names.specs.Naming.{Use, in_term, in_reason, in_show, fault_of, fault_in_reason, fault_in_term, fault_or_unknown, uses_of}
-use Rattle.chyp_names.specs.Trees.{goals_of}
 use Rattle.chyp_names.specs.Typing.{AreTypedAlike}
 use Rattle.chyp_judge.specs.declared.judged.Judged.{Judged}
 use Rattle.chyp_judge.specs.declared.judged.Judged.TheVariants.{Differs, Good, NoRewrite, SimpDiffers, SimpLimit, TooWide}
@@ -40,6 +39,7 @@ use Rattle.chyp_syntax.proofs.Verdicts.{same-kinds}
 use Rattle.chyp_verdicts.proofs.OneBinding.{imports-nothing, sentence-begins}
 use Rattle.chyp_verdicts.proofs.OneVerdict.{none-some, slice_get-read}
 use Rattle.chyp_verdicts.proofs.Known.{PassingTermsAreTyped}
+use Rattle.chyp_names.proofs.Closing.{goals_at}
 
 -- a verdict that isn't good
 abbrev pub IsBad : Verdict → Type 0
@@ -65,11 +65,11 @@ term-fault : (sense : Sense) (token : ℕ) (v : Verdict) → fault_in_term sense
 term-fault (generator name dom cod) token v e = absurd cc
 term-fault (abbreviation m) token v e = absurd cc
 term-fault broken token v e = this _ v refl e
-term-fault (law first last) token v e = this _ v refl e
+term-fault (equation first last) token v e = this _ v refl e
 term-fault unproved token v e = this _ v refl e
 
 reason-fault : (sense : Sense) (token : ℕ) (v : Verdict) → fault_in_reason sense token ≡ Some v → is_refusal v ≡ true
-reason-fault (law first last) token v e = absurd cc
+reason-fault (equation first last) token v e = absurd cc
 reason-fault unproved token v e = absurd cc
 reason-fault broken token v e = this _ v refl e
 reason-fault (generator name dom cod) token v e = this _ v refl e
@@ -107,7 +107,7 @@ module-bad env (there bindings) prefix v e = go (first_clash env (all_passed_on 
 import-bad : (s : Site) (tree : StatementTree) (v : Verdict) → import_fault s tree ≡ Some v → is_refusal v ≡ true
 import-bad s (inclusion imported prefix) v e = module-bad s.scope.env s.imported (prefix_at s.scope prefix) v e
 import-bad s (a_gen name dom cod) v e = absurd cc
-import-bad s (definition name tree) v e = absurd cc
+import-bad s (a_let name tree) v e = absurd cc
 import-bad s (rule name left equals right) v e = absurd cc
 import-bad s (rewrite name first steps) v e = absurd cc
 import-bad s (showing name) v e = absurd cc
@@ -135,10 +135,6 @@ rewrite_or_not (t ∷ ts) = go (same_kind t.kind WordRewrite) refl
     go : (b : Bool) → same_kind t.kind WordRewrite ≡ b → (t.kind ≡ WordRewrite) ⊎ ¬ (t.kind ≡ WordRewrite)
     go true e = inl (same-kinds t.kind WordRewrite e)
     go false e = inr (λ h. false≢true (sym e ∙ ap (λ k. same_kind k WordRewrite) h))
-
--- the terms that the steps of a rewrite lead to
-abbrev pub goals_at : Site → List StepTree → List Morphism
-goals_at site steps = map (expansion_at site.scope) (goals_of steps)
 
 -- what a name stands for, and that it is sound
 pub record SomeSense (s : Site) (v : Verdict) : Type 0 where
@@ -203,8 +199,8 @@ steps-sense s name tree steps v t p alike (inl is) =
     let b = slice_get-read terms (length terms - 1) last there.1 in
     let at : IsEquation first (slice_index_or terms (length terms - 1) last) = alike 0 first (omega arith) (length terms - 1) last b.0 in
     record {
-      sense = law first last;
-      stands = subst (λ w. StandsFor s w (law first last)) (sym is) (a_proved_rewrite t refl there.1);
+      sense = equation first last;
+      stands = subst (λ w. StandsFor s w (equation first last)) (sym is) (a_proved_rewrite t refl there.1);
       sound = (subst (IsEquation first) b.1 at, p.small.each 0 first (omega arith), subst IsWithinLimits b.1 (p.small.each (length terms - 1) last b.0));
     }
 
@@ -223,14 +219,14 @@ some-sense typed s env v name e (accepted {tree} t p n) = go tree t p n
       stands = a_declared_generator t refl;
       sound = (subst (λ k. k ≤ 64) (sym (length-replicate dom plain)) p.small.ports.0, subst (λ k. k ≤ 64) (sym (length-replicate cod plain)) p.small.ports.1);
     }
-    go (definition n tree) t p m =
-        let alike = typed s env (definition n tree) p in
+    go (a_let n tree) t p m =
+        let alike = typed s env (a_let n tree) p in
         let is = alike 0 (expansion_at s.scope tree) (omega arith) 0 (expansion_at s.scope tree) (omega arith) in
         record { sense = abbreviation (expansion_at s.scope tree); stands = a_term t refl; sound = (is.left, p.small.each 0 (expansion_at s.scope tree) (omega arith)) }
     go (rule n left equals right) t p m =
         let alike = typed s env (rule n left equals right) p in
         record {
-          sense = law (expansion_at s.scope left) (expansion_at s.scope right);
+          sense = equation (expansion_at s.scope left) (expansion_at s.scope right);
           stands = a_rule t refl;
           sound = (
             alike 0 (expansion_at s.scope left) (omega arith) 1 (expansion_at s.scope right) (omega arith),

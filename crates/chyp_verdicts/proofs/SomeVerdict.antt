@@ -6,7 +6,7 @@ use Rattle.chyp_base.specs.declared.verdict.Verdict.{Verdict}
 use Rattle.chyp_base.specs.declared.verdict.Verdict.TheVariants.{Proved, Unfinished, Syntax, TooBig, Declared, Mistyped, Unproved, Accepted}
 use Rattle.chyp_syntax.specs.Failing.{IsSentenceOrFails}
 use Rattle.chyp_syntax.specs.Sentence.{IsSentence}
-use Rattle.chyp_syntax.specs.Statement.{StatementTree, generator as a_gen, definition, rule, rewrite, inclusion, showing}
+use Rattle.chyp_syntax.specs.Statement.{StatementTree, generator as a_gen, abbreviation, rule, rewrite, inclusion, showing}
 use Rattle.chyp_term.specs.Derivation.{IsEquation}
 use Rattle.chyp_term.specs.Step.{Reason, by_laws, by_rule, by_simp}
 use Rattle.chyp_term.specs.Measure.{size_of, depth_of, generators_of}
@@ -45,7 +45,7 @@ both (inr a) other = inr (λ p. a p.0)
 
 few_ports : (tree : StatementTree) → HasFewPorts tree ⊎ ¬ HasFewPorts tree
 few_ports (a_gen name dom cod) = both (at_most dom most_ports) (at_most cod most_ports)
-few_ports (definition name tree) = inl tt
+few_ports (abbreviation name tree) = inl tt
 few_ports (rule name left equals right) = inl tt
 few_ports (rewrite name first steps) = inl tt
 few_ports (inclusion imported prefix) = inl tt
@@ -216,7 +216,7 @@ some-verdict known s sound = go (known.sentences s.scope.words)
   where
     passing : (tree : StatementTree) → IsSentence s.scope.words tree → Passes s tree → SomeVerdict (IsJudged s)
     passing (a_gen name dom cod) t p = record { verdict = Accepted; gets = accepted t p refl }
-    passing (definition name tree) t p = record { verdict = Accepted; gets = accepted t p refl }
+    passing (abbreviation name tree) t p = record { verdict = Accepted; gets = accepted t p refl }
     passing (rule name left equals right) t p = record { verdict = Accepted; gets = accepted t p refl }
     passing (inclusion imported prefix) t p = record { verdict = Accepted; gets = accepted t p refl }
     passing (showing name) t p = record { verdict = Accepted; gets = accepted t p refl }

@@ -18,11 +18,6 @@ get-push [] x y (suc k) e = absurd cc
 get-push (a ∷ rest) x y zero e = inl (omega arith, e)
 get-push (a ∷ rest) x y (suc k) e = elim (get-push rest x y k e) [ inl h ↦ inl (omega (arith, h.0), h.1) | inr h ↦ inr (ap suc h.0, h.1) ]
 
-pub get-there : {A : Type 0} (xs : List A) (k : ℕ) → k < length xs → (x : A) × (slice_get xs k ≡ Some x)
-get-there [] k h = absurd (omega arith)
-get-there (x ∷ xs) zero h = (x, refl)
-get-there (x ∷ xs) (suc k) h = get-there xs k (omega arith)
-
 -- ---- verdicts of the first statements
 
 -- the first statements, as many as this, get these verdicts

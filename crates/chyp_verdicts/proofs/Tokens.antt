@@ -8,16 +8,16 @@ use Rattle.chyp_base.specs.declared.verdict.Verdict.{Verdict}
 use Rattle.chyp_base.specs.declared.verdict.Verdict.TheVariants.{Clash}
 use Rattle.chyp_syntax.specs.declared.step.ReasonAst.{ReasonAst}
 use Rattle.chyp_syntax.specs.Numbered.{numbered}
-use Rattle.chyp_syntax.specs.Statement.{StatementTree, generator as a_gen, definition, rule, rewrite, inclusion, showing}
+use Rattle.chyp_syntax.specs.Statement.{StatementTree, generator as a_gen, abbreviation as a_let, rule, rewrite, inclusion, showing}
 use Rattle.chyp_syntax.specs.Step.{StepTree}
 use Rattle.chyp_syntax.specs.Term.{TermTree, TermTrees, named, wire, empty, swap, chain, beside, no_terms, term}
 use Rattle.chyp_syntax.proofs.Numbered.{length-numbered}
 use Rattle.chyp_term.specs.Morphism.{Morphism}
 use Rattle.chyp_term.proofs.Distinct.{all-append}
-use Rattle.chyp_env.specs.Environment.{Sense, generator, abbreviation, law, unproved as not_proved, broken, Binding}
+use Rattle.chyp_env.specs.Environment.{Sense, generator, abbreviation, equation, unproved as not_proved, broken, Binding}
 use Rattle.chyp_env.specs.Expansion.{expansion_in}
 use Rattle.chyp_env.specs.Import.{all_passed_on, first_clash}
-use Rattle.chyp_env.specs.Scope.{Scope, binding_at, meaning_at}
+use Rattle.chyp_env.specs.Scope.{Scope, binding_at, term_at}
 use Rattle.chyp_env.specs.Site.{Imported, nothing, absent, on_cycle, there, Site}
 use Rattle.chyp_env.specs.Typing.{Test, tests_of, tests_behind, tests_of_all}
 use Rattle.chyp_names.specs.Elaboration.{IsRefused, declared, at_import, at_name, too_big, mistyped, unproved, fault_of_module, import_fault, prefix_at, tests_at}
@@ -100,11 +100,11 @@ sense-fault : (n token : ℕ) (s : Sense) (v : Verdict) → token ≤ n → (fau
 sense-fault n token (generator name dom cod) v h e k f = absurd cc
 sense-fault n token (abbreviation m) v h e k f = absurd cc
 sense-fault n token broken v h e k f = let same : Some token ≡ Some k = cc in some-same token k n same h
-sense-fault n token (law first last) v h e k f = let same : Some token ≡ Some k = cc in some-same token k n same h
+sense-fault n token (equation first last) v h e k f = let same : Some token ≡ Some k = cc in some-same token k n same h
 sense-fault n token not_proved v h e k f = let same : Some token ≡ Some k = cc in some-same token k n same h
 
 reason-fault : (n token : ℕ) (s : Sense) (v : Verdict) → token ≤ n → (fault_in_reason s token ≡ Some v) → NamesWithin n v
-reason-fault n token (law first last) v h e k f = absurd cc
+reason-fault n token (equation first last) v h e k f = absurd cc
 reason-fault n token not_proved v h e k f = absurd cc
 reason-fault n token broken v h e k f = let same : Some token ≡ Some k = cc in some-same token k n same h
 reason-fault n token (generator name dom cod) v h e k f = let same : Some token ≡ Some k = cc in some-same token k n same h
@@ -131,7 +131,7 @@ use-unproved scope n (in_reason token) t h e = bound (binding_at scope token) e
     sensed b not_proved i = some-same token t n i h
     sensed b (generator name dom cod) i = absurd cc
     sensed b (abbreviation m) i = absurd cc
-    sensed b (law first last) i = absurd cc
+    sensed b (equation first last) i = absurd cc
     sensed b broken i = absurd cc
 
     bound : (o : Option Binding) → unproved_token o token ≡ Some t → t ≤ n
@@ -200,11 +200,11 @@ tests-within n scope (showing name) h = tt
 tests-within n scope tree h = go (first_tree tree) h.0 h.1
   where
     go : (first : Option TermTree) → GoalWithin n first → AllByRecursion (StepWithin n) (steps_of tree)
-        → TestsWithin n (option_map_or (λ t. tests_of (meaning_at scope) t ++ tests_of_steps (meaning_at scope) (expansion_in (meaning_at scope) t) (steps_of tree)) first [])
+        → TestsWithin n (option_map_or (λ t. tests_of (term_at scope) t ++ tests_of_steps (term_at scope) (expansion_in (term_at scope) t) (steps_of tree)) first [])
     go None f s = tt
     go (Some t) f s =
-        tests-append n (tests_of (meaning_at scope) t) _ (tree-tests n (meaning_at scope) t f)
-        (step-tests n (meaning_at scope) (expansion_in (meaning_at scope) t) (steps_of tree) s)
+        tests-append n (tests_of (term_at scope) t) _ (tree-tests n (term_at scope) t f)
+        (step-tests n (term_at scope) (expansion_in (term_at scope) t) (steps_of tree) s)
 
 -- ---- verdicts
 
@@ -222,7 +222,7 @@ import-within site n (inclusion imported prefix) v long e k f = go site.imported
     go on_cycle i k f = let same : Some 1 ≡ Some k = cc in some-same 1 k n same long
     go (there env) i k f = clash (first_clash site.scope.env (all_passed_on (prefix_at site.scope prefix) env)) i k f
 import-within site n (a_gen name dom cod) v long e k f = absurd cc
-import-within site n (definition name tree) v long e k f = absurd cc
+import-within site n (a_let name tree) v long e k f = absurd cc
 import-within site n (rule name left equals right) v long e k f = absurd cc
 import-within site n (rewrite name first steps) v long e k f = absurd cc
 import-within site n (showing name) v long e k f = absurd cc

@@ -8,7 +8,7 @@ use Rattle.chyp_term.specs.Derivation.{Derives}
 use Rattle.chyp_term.specs.Morphism.{Morphism}
 use Rattle.chyp_term.specs.Rewriting.{RewritesInContext}
 use Rattle.chyp_term.specs.Step.{Reason, by_laws, by_rule, by_simp}
-use Rattle.chyp_env.specs.Environment.{law, Origin}
+use Rattle.chyp_env.specs.Environment.{equation, Origin}
 use Rattle.chyp_env.specs.Site.{Site}
 use Rattle.chyp_simp.specs.Comparing.{IsComparison}
 use Rattle.chyp_simp.specs.Run.{most_placements}
@@ -25,12 +25,12 @@ use Rattle.chyp_verdicts.specs.Steps.{AreGood}
 abbrev pub Order : Type 1
 Order = Origin → Origin → Type 0
 
--- the equation is that of a `rule` that stands before the statement and on which that one rests
-pub record IsEarlierRule (Stands : Standing) (Before : Order) (origin : Origin) (equation : Morphism × Morphism) : Type 0 where
+-- the equation with these sides is that of a `rule` that stands before the statement and on which that one rests
+pub record IsEarlierRule (Stands : Standing) (Before : Order) (origin : Origin) (sides : Morphism × Morphism) : Type 0 where
   pub from : Origin
   pub before : Before from origin
   pub rests : RestsOn Stands origin from
-  pub means : Means Stands from (law equation.0 equation.1)
+  pub means : Means Stands from (equation sides.0 sides.1)
 
 -- the statement is a rewrite, and the equation of its first term and its last has a derivation from rules that stand before it
 pub record HasProof (Stands : Standing) (Before : Order) (origin : Origin) : Type 0 where

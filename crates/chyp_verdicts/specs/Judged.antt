@@ -7,8 +7,6 @@ use Rattle.chyp_syntax.specs.Sentence.{IsSentence}
 use Rattle.chyp_syntax.specs.Statement.{StatementTree, rewrite}
 use Rattle.chyp_syntax.specs.Step.{StepTree}
 use Rattle.chyp_syntax.specs.Term.{TermTree}
-use Rattle.chyp_term.specs.Morphism.{Morphism}
-use Rattle.chyp_term.specs.Step.{Reason}
 use Rattle.chyp_env.specs.Site.{Site}
 use Rattle.chyp_names.specs.Elaboration.{Passes, IsRefused, has_hole, steps_at, terms_of}
 use Rattle.chyp_verdicts.specs.Steps.{IsVerdictOnSteps, Move, moves_of}
@@ -35,8 +33,3 @@ pub data IsJudged (site : Site) : Verdict → Type 0 where
       → IsVerdictOnSteps (terms_of site (rewrite name first steps)) (steps_at site.scope (rewrite name first steps))
       (has_hole (rewrite name first steps)) verdict
       → IsJudged site verdict
-
--- the verdict of a statement that nothing refuses and that has these terms, reasons of its steps, and a hole or none
-abbrev pub IsVerdictOf : List Morphism → List Reason → Bool → StatementTree → Verdict → Type 0
-IsVerdictOf terms reasons hole (rewrite name first steps) verdict = IsVerdictOnSteps terms reasons hole verdict
-IsVerdictOf terms reasons hole _ verdict = verdict ≡ Accepted

@@ -5,3 +5,4 @@ pub mod Rules
 pub mod Texts
 pub mod Explained
 pub mod Sites
+pub mod Bodies

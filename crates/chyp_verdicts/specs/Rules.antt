@@ -1,4 +1,4 @@
--- From which rules a law follows.
+-- From which rules an equation follows.
 use Rattle.std.specs.Prelude.{◌≡◌, ℕ, List, Contains, All, Some, slice_get, flat_map, length, ◌-◌}
 use Rattle.chyp_base.specs.declared.verdict.Verdict.TheVariants.{Proved}
 use Rattle.chyp_syntax.specs.Sentence.{IsSentence}
@@ -7,7 +7,7 @@ use Rattle.chyp_syntax.specs.Step.{StepTree}
 use Rattle.chyp_syntax.specs.Term.{TermTree}
 use Rattle.chyp_term.specs.Derivation.{Derives}
 use Rattle.chyp_term.specs.Morphism.{Morphism}
-use Rattle.chyp_env.specs.Environment.{law, Binding, Origin}
+use Rattle.chyp_env.specs.Environment.{equation, Binding, Origin}
 use Rattle.chyp_env.specs.Scope.{binding_at}
 use Rattle.chyp_env.specs.Site.{Site}
 use Rattle.chyp_env.specs.Sound.{IsSound}
@@ -48,11 +48,11 @@ pub data RestsOn (Stands : Standing) : Origin → Origin → Type 0 where
   by_name : {from to : Origin} {site : Site} {binding : Binding} → Stands from site → Cites site binding → RestsOn Stands binding.origin to
       → RestsOn Stands from to
 
--- the equation is permitted to the statement: it is that of a rule on which the statement rests
-pub record Permits (Stands : Standing) (origin : Origin) (equation : Morphism × Morphism) : Type 0 where
+-- the equation with these sides is permitted to the statement: it is that of a rule on which the statement rests
+pub record Permits (Stands : Standing) (origin : Origin) (sides : Morphism × Morphism) : Type 0 where
   pub from : Origin
   pub rests : RestsOn Stands origin from
-  pub means : Means Stands from (law equation.0 equation.1)
+  pub means : Means Stands from (equation sides.0 sides.1)
 
 -- from equations that are permitted to the statement, the first term and the last have a derivation
 pub record IsDerived (Stands : Standing) (origin : Origin) (first last : Morphism) : Type 0 where

@@ -1,8 +1,9 @@
 use Rattle.std.proofs.Common.{◌+◌, ◌≤◌, length, ap, subst, arith}
 use Rattle.chyp_load.specs.Statements.{CutText, IsCut}
 use Rattle.chyp_modules.specs.Library.{library_of}
-use Rattle.chyp_app.proofs.CheckLemmas.{on_err, verdicts-many}
+use Rattle.chyp_app.proofs.CheckLemmas.{verdicts-many}
 use Rattle.chyp_app.proofs.check.check_over.Goals as goal
+use Rattle.chyp_check.proofs.Outcomes.{on_err}
 
 pub report-requires : goal.report-requires
 report-requires g c =

@@ -6,8 +6,9 @@ use Rattle.chyp_modules.specs.Checking.{Gives as Results, too_long as too_long'}
 use Rattle.chyp_modules.specs.Library.{Module}
 use Rattle.chyp_app.specs.Headline.{BeginsToCheck}
 use Rattle.chyp_app.specs.Output.{IsCheck, too_long}
-use Rattle.chyp_app.proofs.CheckLemmas.{IsMade, all-read, begun, counts_none, made, on_err, told, use-told}
+use Rattle.chyp_app.proofs.CheckLemmas.{IsMade, all-read, begun, counts_none, made, told, use-told}
 use Rattle.chyp_app.proofs.check.check_text.Goals as goal
+use Rattle.chyp_check.proofs.Outcomes.{on_err}
 
 pub returns-in_err-main-clause-begins : goal.returns-in_err-main-clause-begins
 returns-in_err-main-clause-begins g c =

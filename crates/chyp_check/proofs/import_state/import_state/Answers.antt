@@ -4,7 +4,7 @@ use Rattle.chyp_env.specs.Environment.{Binding}
 use Rattle.chyp_env.specs.ImportState.{imported_of}
 use Rattle.chyp_modules.specs.Import.{Imports, ImportsNothing}
 use Rattle.chyp_modules.specs.Modules.{no_import, of_none}
-use Rattle.chyp_check.proofs.Fronts.{any-default, finds-circle, finds-module, leads-reached, none-not-some}
+use Rattle.chyp_check.proofs.Fronts.{any-default, finds-cycle, finds-module, leads-reached, none-not-some}
 use Rattle.chyp_check.proofs.import_state.import_state.Goals as goal
 
 pub returns-in_default : goal.returns-in_default
@@ -21,7 +21,7 @@ pub returns-then-reaches : goal.returns-then-reaches
 unfolding imported_of
 returns-then-reaches c =
     let i = subst (λ o. IfSome o (Imports c.args.chunk.now)) c.in-Some.is c.in_ok-name.ensures.some in
-    finds-circle c.args.project.now c.args.chunk.now c.in-Some.name c.in-Some-place_of.place c.mapped.ensures c.in-Some-place_of.ensures.some c.in-Some-place_of.ensures.named
+    finds-cycle c.args.project.now c.args.chunk.now c.in-Some.name c.in-Some-place_of.place c.mapped.ensures c.in-Some-place_of.ensures.some c.in-Some-place_of.ensures.named
     (sym c.reaches.ensures ∙ c.if-reaches.true) i
 
 pub unreachable-requires : goal.unreachable-requires

@@ -6,9 +6,9 @@ use Rattle.chyp_term.specs.Morphism.{then, beside}
 use Rattle.chyp_syntax.specs.declared.term.TermAst.{TermAst}
 use Rattle.chyp_syntax.specs.declared.term.TermAst.TheVariants.{Swap}
 use Rattle.chyp_syntax.specs.Term.{tree_of}
-use Rattle.chyp_env.specs.Expansion.{join_of}
+use Rattle.chyp_env.specs.Join.{join_of}
 use Rattle.chyp_term.specs.Halving.{halved}
-use Rattle.chyp_env.specs.Scope.{meaning_at}
+use Rattle.chyp_env.specs.Scope.{term_at}
 use Rattle.chyp_env.proofs.Halves.{expansion-Chain, expansion-Beside, halved-map, part_in, term_is}
 use Rattle.chyp_env.proofs.Nodes.{nodes, nodes_in, nodes-Chain, nodes-Beside, part_nodes, halves_nodes, enough_nodes}
 use Rattle.chyp_env.proofs.Holding.{swap_permutes, Chain_parts, Beside_parts, PartHolds}
@@ -16,12 +16,12 @@ use Rattle.chyp_env.proofs.expansion.+terms.Goals as goal
 
 pub expand-written-requires : goal.expand-written-requires
 expand-written-requires t c =
-    let meaning = meaning_at c.args.scope.now in
+    let meaning = term_at c.args.scope.now in
     rw c.as_slice.ensures (swap_permutes meaning c.args.tree.now c.in-Swap.token c.in-Some.places (c.in-Swap.is ∙ ap (Swap c.in-Swap.token) c.in-Some.is) c.requires)
 
 pub expand-row-requires : goal.expand-row-requires
 expand-row-requires t c =
-    let meaning = meaning_at c.args.scope.now in
+    let meaning = term_at c.args.scope.now in
     let parts = c.in-Chain.parts in
     let items = c.as_slice-in-Chain.result.now in
     let size : nodes (tree_of c.args.tree.now) ≡ suc (nodes_in items) =
@@ -33,7 +33,7 @@ expand-row-requires t c =
 
 pub expand-row-requires-in-Beside : goal.expand-row-requires-in-Beside
 expand-row-requires-in-Beside t c =
-    let meaning = meaning_at c.args.scope.now in
+    let meaning = term_at c.args.scope.now in
     let parts = c.in-Beside.parts in
     let items = c.as_slice-in-Beside.result.now in
     let size : nodes (tree_of c.args.tree.now) ≡ suc (nodes_in items) =
@@ -45,7 +45,7 @@ expand-row-requires-in-Beside t c =
 
 pub expand-returns-in-Chain : goal.expand-returns-in-Chain
 expand-returns-in-Chain t c =
-    let meaning = meaning_at c.args.scope.now in
+    let meaning = term_at c.args.scope.now in
     let parts = c.in-Chain.parts in
     let same = ap (λ (xs : List TermAst). halved then (map (part_in meaning) xs)) c.as_slice-in-Chain.ensures
     ∙ sym (ap (part_in meaning) c.in-Chain.is ∙ expansion-Chain meaning parts c.in-Chain.semis) in
@@ -53,7 +53,7 @@ expand-returns-in-Chain t c =
 
 pub expand-returns-in-Beside : goal.expand-returns-in-Beside
 expand-returns-in-Beside t c =
-    let meaning = meaning_at c.args.scope.now in
+    let meaning = term_at c.args.scope.now in
     let parts = c.in-Beside.parts in
     let same = ap (λ (xs : List TermAst). halved beside (map (part_in meaning) xs)) c.as_slice-in-Beside.ensures
     ∙ sym (ap (part_in meaning) c.in-Beside.is ∙ expansion-Beside meaning parts) in
@@ -61,7 +61,7 @@ expand-returns-in-Beside t c =
 
 pub row-expand-requires : goal.row-expand-requires
 row-expand-requires t c =
-    let meaning = meaning_at c.args.scope.now in
+    let meaning = term_at c.args.scope.now in
     let items = c.args.parts.now in
     let part = c.part-item.result in
     let some : 0 < length items = omega arith in
@@ -72,7 +72,7 @@ row-expand-requires t c =
 
 pub row-row-requires : goal.row-row-requires
 row-row-requires t c =
-    let meaning = meaning_at c.args.scope.now in
+    let meaning = term_at c.args.scope.now in
     let items = c.args.parts.now in
     let half = length items / 2 in
     let two : 2 ≤ length items = c.in_default.len_at_least in
@@ -84,7 +84,7 @@ row-row-requires t c =
 
 pub row-row-requires-in_default : goal.row-row-requires-in_default
 row-row-requires-in_default t c =
-    let meaning = meaning_at c.args.scope.now in
+    let meaning = term_at c.args.scope.now in
     let items = c.args.parts.now in
     let half = length items / 2 in
     let two : 2 ≤ length items = c.in_default.len_at_least in
@@ -98,7 +98,7 @@ row-row-requires-in_default t c =
 
 pub row-returns-in_ok-rest-in_default : goal.row-returns-in_ok-rest-in_default
 row-returns-in_ok-rest-in_default t c =
-    let meaning = meaning_at c.args.scope.now in
+    let meaning = term_at c.args.scope.now in
     let items = c.args.parts.now in
     let half = length items / 2 in
     let join = join_of c.args.join in

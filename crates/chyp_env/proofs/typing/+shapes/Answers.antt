@@ -9,18 +9,18 @@ use Rattle.chyp_syntax.specs.declared.term.TermAst.TheVariants.{Swap}
 use Rattle.chyp_syntax.proofs.Trees.{tree_of-Wire, tree_of-Swap}
 use Rattle.chyp_env.specs.Expansion.{expansion_in}
 use Rattle.chyp_env.specs.Shape.{IsShape}
-use Rattle.chyp_env.specs.Scope.{meaning_at}
+use Rattle.chyp_env.specs.Scope.{term_at}
 use Rattle.chyp_env.specs.Typing.{FailsFirst}
 use Rattle.chyp_env.proofs.Failing.{swap_fails}
 use Rattle.chyp_env.proofs.Halves.{part_in}
 use Rattle.chyp_env.proofs.Nodes.{part_nodes}
 use Rattle.chyp_env.proofs.Typed.{one_place, two_places}
-use Rattle.chyp_env.proofs.Rows.{terms_in, chain_tests, term_at, chain-first, chain-first-fails, chain-next, chain-next-fails, chain-apart, chain-last, tensor-next, tensor-next-fails, tensor-last, typed_more, chain_shape, wires_more, tensor_shape}
+use Rattle.chyp_env.proofs.Rows.{terms_in, chain_tests, part_at, chain-first, chain-first-fails, chain-next, chain-next-fails, chain-apart, chain-last, tensor-next, tensor-next-fails, tensor-last, typed_more, chain_shape, wires_more, tensor_shape}
 use Rattle.chyp_env.proofs.typing.+shapes.Goals as goal
 
 pub shape_of_chain-returns-in_err-shape-clause-fails : goal.shape_of_chain-returns-in_err-shape-clause-fails
 shape_of_chain-returns-in_err-shape-clause-fails t c = λ token e.
-    let meaning = meaning_at c.args.scope.now in
+    let meaning = term_at c.args.scope.now in
     let p = err_from_is_err_and c.from_residual.result c.from_residual.ensures.1 in
     let item = c.in-Some.ensures.item in
     let f = c.in_err-shape.ensures.fails token (cc) in
@@ -28,13 +28,13 @@ shape_of_chain-returns-in_err-shape-clause-fails t c = λ token e.
 
 pub shape_of_chain-loop-i-init : goal.shape_of_chain-loop-i-init
 shape_of_chain-loop-i-init t c =
-    let meaning = meaning_at c.args.scope.now in
+    let meaning = term_at c.args.scope.now in
     let parts = c.args.parts.now in
     let part = c.in-Some.first.now in
     let item = c.in-Some.ensures.item in
     let within : 0 < length parts = item.3.0 in
     let is : part ≡ slice_index_or parts 0 part = item.1 in
-    let place = term_at meaning parts 0 part within is in
+    let place = part_at meaning parts 0 part within is in
     let shape = c.in_ok-shape.ensures.shape in
     record {
       within = within;
@@ -54,7 +54,7 @@ shape_of_chain-shape_of_tree-requires-in-loop-i t c =
 
 pub shape_of_chain-returns-in_err-next-clause-fails : goal.shape_of_chain-returns-in_err-next-clause-fails
 shape_of_chain-returns-in_err-next-clause-fails t c = λ token e.
-    let meaning = meaning_at c.args.scope.now in
+    let meaning = term_at c.args.scope.now in
     let p = err_from_is_err_and c.from_residual-in_err-next.result c.from_residual-in_err-next.ensures.1 in
     let i = c.loop-i.i in
     let within : i + 1 < length c.args.parts.now = omega arith in
@@ -62,7 +62,7 @@ shape_of_chain-returns-in_err-next-clause-fails t c = λ token e.
 
 pub shape_of_chain-returns-in_err-shape-2-clause-fails : goal.shape_of_chain-returns-in_err-shape-2-clause-fails
 shape_of_chain-returns-in_err-shape-2-clause-fails t c = λ token e.
-    let meaning = meaning_at c.args.scope.now in
+    let meaning = term_at c.args.scope.now in
     let p = err_from_is_err_and c.from_residual-in_err-shape-2.result c.from_residual-in_err-shape-2.ensures.1 in
     let i = c.loop-i.i in
     let parts = c.args.parts.now in
@@ -77,14 +77,14 @@ shape_of_chain-returns-in_err-shape-2-clause-fails t c = λ token e.
 
 pub shape_of_chain-loop-i-preserved : goal.shape_of_chain-loop-i-preserved
 shape_of_chain-loop-i-preserved t c =
-    let meaning = meaning_at c.args.scope.now in
+    let meaning = term_at c.args.scope.now in
     let parts = c.args.parts.now in
     let i = c.loop-i.i in
     let part = c.index-parts-i.result in
     let within : i + 1 < length parts = omega arith in
     let before = c.loop-i.invariant in
     let next = c.in_ok-next.ensures.shape in
-    let place = term_at meaning parts (i + 1) part within c.index-parts-i.is in
+    let place = part_at meaning parts (i + 1) part within c.index-parts-i.is in
     let meet = sym before.cod ∙ c.in_ok-shape-2.ensures.meets refl ∙ next.dom in
     record {
       within = within;
@@ -96,7 +96,7 @@ shape_of_chain-loop-i-preserved t c =
 
 pub shape_of_chain-returns-clause-shape : goal.shape_of_chain-returns-clause-shape
 shape_of_chain-returns-clause-shape t c =
-    let meaning = meaning_at c.args.scope.now in
+    let meaning = term_at c.args.scope.now in
     let parts = c.args.parts.now in
     let i = c.loop-i.i in
     let now = c.loop-i.invariant in
@@ -113,14 +113,14 @@ shape_of_tensor-shape_of_tree-requires t c =
 
 pub shape_of_tensor-returns-in_err-shape-clause-fails : goal.shape_of_tensor-returns-in_err-shape-clause-fails
 shape_of_tensor-returns-in_err-shape-clause-fails t c = λ token e.
-    let meaning = meaning_at c.args.scope.now in
+    let meaning = term_at c.args.scope.now in
     let p = err_from_is_err_and c.from_residual.result c.from_residual.ensures.1 in
     tensor-next-fails meaning c.args.parts.now c.loop-part.part-index c.part-item.result token c.loop-part-test.true c.part-item.is c.loop-part.invariant.reaches
     (c.in_err-shape.ensures.fails token (cc))
 
 pub shape_of_tensor-loop-part-preserved : goal.shape_of_tensor-loop-part-preserved
 shape_of_tensor-loop-part-preserved t c =
-    let meaning = meaning_at c.args.scope.now in
+    let meaning = term_at c.args.scope.now in
     let parts = c.args.parts.now in
     let i = c.loop-part.part-index in
     let part = c.part-item.result in
@@ -136,19 +136,19 @@ shape_of_tensor-loop-part-preserved t c =
 
 pub shape_of_tensor-returns-clause-shape : goal.shape_of_tensor-returns-clause-shape
 shape_of_tensor-returns-clause-shape t c =
-    let meaning = meaning_at c.args.scope.now in
+    let meaning = term_at c.args.scope.now in
     let now = c.loop-part.invariant in
     tensor_shape meaning c.args.parts.now c.loop-part.part-index (record { dom = c.loop-part.dom; cod = c.loop-part.cod }) c.loop-part-test.false now.dom now.cod now.typed
 
 pub shape_of_tree-returns-in_ok-plain_shape-in-Wire-clause-shape : goal.shape_of_tree-returns-in_ok-plain_shape-in-Wire-clause-shape
 shape_of_tree-returns-in_ok-plain_shape-in-Wire-clause-shape t c =
-    let meaning = meaning_at c.args.scope.now in
+    let meaning = term_at c.args.scope.now in
     subst (λ (m : Morphism). IsShape c.in_ok-plain_shape-in-Wire.field-0 m) (sym (ap (part_in meaning) c.in-Wire.is ∙ ap (expansion_in meaning) tree_of-Wire))
     (c.in_ok-plain_shape-in-Wire.ensures (0 ∷ []) refl one_place)
 
 pub shape_of_tree-returns-in-Some-clause-fails : goal.shape_of_tree-returns-in-Some-clause-fails
 shape_of_tree-returns-in-Some-clause-fails t c = λ token e.
-    let meaning = meaning_at c.args.scope.now in
+    let meaning = term_at c.args.scope.now in
     let places = c.in-Some.places in
     let fault = c.shape_of_swap.ensures.fails token e in
     let wrong = λ (permutes : IsPermutation (length places) places). fault.1 (subst (λ (ps : List ℕ). IsPermutation (length ps) ps) (sym c.as_slice.ensures) permutes) in
@@ -156,17 +156,17 @@ shape_of_tree-returns-in-Some-clause-fails t c = λ token e.
 
 pub shape_of_tree-returns-in_ok-plain_shape-in-None-clause-shape : goal.shape_of_tree-returns-in_ok-plain_shape-in-None-clause-shape
 shape_of_tree-returns-in_ok-plain_shape-in-None-clause-shape t c =
-    let meaning = meaning_at c.args.scope.now in
+    let meaning = term_at c.args.scope.now in
     subst (λ (m : Morphism). IsShape c.in_ok-plain_shape-in-None.field-0 m)
     (sym (ap (part_in meaning) (c.in-Swap.is ∙ ap (Swap c.in-Swap.token) c.in-None.is) ∙ ap (expansion_in meaning) (tree_of-Swap c.in-Swap.token None)))
     (c.in_ok-plain_shape-in-None.ensures (1 ∷ 0 ∷ []) refl two_places)
 
 pub shape_of_chain-returns-clause-holds : goal.shape_of_chain-returns-clause-holds
 shape_of_chain-returns-clause-holds t c = λ ok.
-    let meaning = meaning_at c.args.scope.now in
+    let meaning = term_at c.args.scope.now in
     let past : length c.args.parts.now ≤ c.loop-i.i + 1 = omega arith in
     chain-last meaning c.args.parts.now c.args.semis.now c.loop-i.i past c.loop-i.invariant.reaches
 
 pub shape_of_tensor-returns-clause-holds : goal.shape_of_tensor-returns-clause-holds
 shape_of_tensor-returns-clause-holds t c = λ ok.
-    tensor-last (meaning_at c.args.scope.now) c.args.parts.now c.loop-part.part-index c.loop-part-test.false c.loop-part.invariant.reaches
+    tensor-last (term_at c.args.scope.now) c.args.parts.now c.loop-part.part-index c.loop-part-test.false c.loop-part.invariant.reaches

@@ -3,7 +3,7 @@ use Rattle.std.specs.List.{All, flat_map}
 use Rattle.chyp_term.specs.Derivation.{empty}
 use Rattle.chyp_term.specs.Morphism.{dom, cod, IsTyped}
 use Rattle.chyp_syntax.specs.Term.{tree_of}
-use Rattle.chyp_env.specs.Scope.{meaning_at}
+use Rattle.chyp_env.specs.Scope.{term_at}
 use Rattle.chyp_env.proofs.Failing.{Reaches}
 use Rattle.chyp_env.proofs.Nodes.{nodes, nodes_in}
 use Rattle.chyp_env.proofs.Rows.{terms_in, chain_tests, behind, tensor_tests, beyond}
@@ -20,7 +20,7 @@ decreases-shape_of_tensor l = 2 * nodes_in l.parts.now + 1
 
 abbrev pub invariant-shape_of_chain-loop-i : goal.invariant-shape_of_chain-loop-i
 invariant-shape_of_chain-loop-i l =
-    let meaning = meaning_at l.scope in
+    let meaning = term_at l.scope in
     let terms = terms_in meaning l.parts in
     record {
       within : l.i < length l.parts;
@@ -32,7 +32,7 @@ invariant-shape_of_chain-loop-i l =
 
 abbrev pub invariant-shape_of_tensor-loop-part : goal.invariant-shape_of_tensor-loop-part
 invariant-shape_of_tensor-loop-part l =
-    let meaning = meaning_at l.scope in
+    let meaning = term_at l.scope in
     let terms = terms_in meaning l.parts in
     record {
       reaches : Reaches (tensor_tests meaning l.parts) (beyond meaning l.parts l.part-index);

@@ -3,13 +3,13 @@ use Rattle.std.proofs.lemmas.List.{take_all}
 use Rattle.chyp_syntax.specs.declared.step.StepAst.{StepAst}
 use Rattle.chyp_term.specs.Step.{reason_of}
 use Rattle.chyp_names.specs.Elaboration.{reason_at}
-use Rattle.chyp_names.specs.Laws.{RestsOnLaws}
-use Rattle.chyp_names.proofs.Laws.{reasons_of_steps}
+use Rattle.chyp_names.specs.Equations.{RestsOnEquations}
+use Rattle.chyp_names.proofs.Equations.{reasons_of_steps}
 use Rattle.chyp_names.proofs.steps.step_list.Goals as goal
 
 pub step-requires : goal.step-requires
 step-requires c =
-    subst (λ (step : StepAst). RestsOnLaws c.args.scope.now step.reason) (sym c.ast-item.is) (c.requires c.loop-ast.ast-index c.ast-item.result c.loop-ast-test.true)
+    subst (λ (step : StepAst). RestsOnEquations c.args.scope.now step.reason) (sym c.ast-item.is) (c.requires c.loop-ast.ast-index c.ast-item.result c.loop-ast-test.true)
 
 pub returns : goal.returns
 returns c =

@@ -4,7 +4,7 @@ use Rattle.std.proofs.lemmas.Result.{err_from_is_err_and}
 use Rattle.chyp_lex.specs.declared.token.TokenKind.TheVariants.{Ident, WordImport, WordAs}
 use Rattle.chyp_syntax.specs.declared.error.ParseError.TheVariants.{Syntax}
 use Rattle.chyp_syntax.specs.Expected.{next, token, tail, prefix_left, nothing}
-use Rattle.chyp_syntax.specs.Numbered.{tokens_from}
+use Rattle.chyp_syntax.specs.Beginning.{tokens_from}
 use Rattle.chyp_syntax.proofs.Numbered.{within_kind}
 use Rattle.chyp_syntax.proofs.Pieces.{more_than_nothing}
 use Rattle.chyp_syntax.proofs.Statements.{word_expects, import_there, import_as_there}

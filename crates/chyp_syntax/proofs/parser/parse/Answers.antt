@@ -1,7 +1,7 @@
 use Rattle.std.proofs.Common.{◌≡◌, ◌≤◌, length, sym, ◌∙◌, ap, subst}
 use Rattle.std.specs.List.{enumerate_from}
 use Rattle.chyp_syntax.specs.Expected.{statement, stopped, verdict}
-use Rattle.chyp_syntax.specs.Numbered.{words_from, tokens_from}
+use Rattle.chyp_syntax.specs.Beginning.{words_from, tokens_from}
 use Rattle.chyp_syntax.specs.Sentence.{IsStatement}
 use Rattle.chyp_syntax.specs.Words.{words_of}
 use Rattle.chyp_syntax.proofs.Failures.{fails_words, is_sentence_of}

@@ -1,6 +1,6 @@
 use Rattle.std.proofs.Common.{◌≡◌, subst, arith}
 use Rattle.chyp_syntax.specs.Expected.{statement}
-use Rattle.chyp_syntax.specs.Numbered.{tokens_from}
+use Rattle.chyp_syntax.specs.Beginning.{tokens_from}
 use Rattle.chyp_syntax.specs.Reads.{StopsAt}
 use Rattle.chyp_syntax.proofs.Numbered.{terminal, tokens_from-more, tokens_from-past}
 use Rattle.chyp_syntax.proofs.Statements.{no_statement_there, nothing_there}

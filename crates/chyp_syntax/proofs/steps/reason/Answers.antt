@@ -4,7 +4,7 @@ use Rattle.std.proofs.lemmas.Result.{err_from_is_err_and}
 use Rattle.chyp_lex.specs.declared.token.TokenKind.TheVariants.{WordBy, WordSimp, RightParenthesis}
 use Rattle.chyp_syntax.specs.declared.error.ParseError.TheVariants.{Syntax}
 use Rattle.chyp_syntax.specs.Expected.{next, token, tail, reason_left, signed_left, signed}
-use Rattle.chyp_syntax.specs.Numbered.{tokens_from}
+use Rattle.chyp_syntax.specs.Beginning.{tokens_from}
 use Rattle.chyp_syntax.proofs.Numbered.{within_kind}
 use Rattle.chyp_syntax.proofs.Verdicts.{tail_skips, tail_passes, token_passes}
 use Rattle.chyp_syntax.proofs.Pieces.{is_plain, is_rule_reason, is_simp_reason, reason_signed, simp_expects, simp_opened}

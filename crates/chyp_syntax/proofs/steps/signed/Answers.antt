@@ -4,7 +4,7 @@ use Rattle.std.proofs.lemmas.Result.{err_from_is_err_and}
 use Rattle.chyp_lex.specs.declared.token.TokenKind.TheVariants.{Minus}
 use Rattle.chyp_syntax.specs.declared.error.ParseError.TheVariants.{Syntax}
 use Rattle.chyp_syntax.specs.Expected.{next, name, verdict, stopped}
-use Rattle.chyp_syntax.specs.Numbered.{tokens_from, BeginsWithName}
+use Rattle.chyp_syntax.specs.Beginning.{tokens_from, BeginsWithName}
 use Rattle.chyp_syntax.specs.Reads.{Stops}
 use Rattle.chyp_syntax.proofs.Numbered.{token_there}
 use Rattle.chyp_syntax.proofs.Pieces.{signed_minus, signed_unsigned, is_forwards, is_backwards, name_passes}

@@ -1,6 +1,6 @@
 use Rattle.std.proofs.Common.{◌-◌, ◌≤◌, [], length}
 use Rattle.chyp_syntax.specs.Expected.{next, signed, tail, signed_left}
-use Rattle.chyp_syntax.specs.Numbered.{tokens_from}
+use Rattle.chyp_syntax.specs.Beginning.{tokens_from}
 use Rattle.chyp_syntax.specs.Sentence.{AreSigned}
 use Rattle.chyp_syntax.proofs.Separated.{SoFar, Again}
 use Rattle.chyp_syntax.proofs.steps.signed_list.Given as goal

@@ -5,7 +5,7 @@ use Rattle.std.proofs.lemmas.Result.{err_from_is_err_and}
 use Rattle.chyp_lex.specs.declared.token.TokenKind.TheVariants.{Equals, QuestionMark}
 use Rattle.chyp_syntax.specs.declared.error.ParseError.TheVariants.{Syntax}
 use Rattle.chyp_syntax.specs.Expected.{steps}
-use Rattle.chyp_syntax.specs.Numbered.{tokens_from}
+use Rattle.chyp_syntax.specs.Beginning.{tokens_from}
 use Rattle.chyp_syntax.specs.Step.{StepTree, step_of}
 use Rattle.chyp_syntax.proofs.Numbered.{within_kind}
 use Rattle.chyp_syntax.proofs.StepRuns.{steps_more, steps_hole, steps_end, hole_expects, step_expects, no_step_there}

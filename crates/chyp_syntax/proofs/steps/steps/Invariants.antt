@@ -1,6 +1,6 @@
 use Rattle.std.proofs.Common.{◌≡◌, ◌-◌, ◌≤◌, length, map}
 use Rattle.chyp_syntax.specs.Expected.{steps, verdict}
-use Rattle.chyp_syntax.specs.Numbered.{tokens_from}
+use Rattle.chyp_syntax.specs.Beginning.{tokens_from}
 use Rattle.chyp_syntax.specs.Step.{step_of}
 use Rattle.chyp_syntax.proofs.StepRuns.{StepsSoFar}
 use Rattle.chyp_syntax.proofs.steps.steps.Given as goal

@@ -5,16 +5,16 @@ use Rattle.std.proofs.lemmas.Result.{err_from_is_err_and, IfOk-weaker}
 use Rattle.chyp_lex.specs.declared.token.TokenKind.TheVariants.{WordSw, LeftParenthesis, RightParenthesis, Star, Semicolon}
 use Rattle.chyp_syntax.specs.declared.error.ParseError.TheVariants.{Syntax}
 use Rattle.chyp_syntax.specs.Expected.{next, token, atom, tail, atoms_left, pars_left, places_left, answer, stopped, verdict}
-use Rattle.chyp_syntax.specs.Numbered.{tokens_from}
+use Rattle.chyp_syntax.specs.Beginning.{tokens_from}
 use Rattle.chyp_syntax.specs.Reads.{BeginsWith, Passes}
 use Rattle.chyp_syntax.specs.Sentence.{IsSwap, IsAtom, AreAtoms, IsPar, ArePars}
 use Rattle.chyp_syntax.specs.Term.{TermTree, tree_of}
-use Rattle.chyp_syntax.proofs.Atoms.{atom_stops, atom_past, named_there, wire_there, empty_there, name_takes, swap_atom, swap_expects, deepest_stops, inner_expects, is_inner, atoms_one, atoms_more, pars_one, pars_more, is_tensor, is_chain}
+use Rattle.chyp_syntax.proofs.Atoms.{atom_stops, atom_past, named_there, wire_there, empty_there, swap_atom, swap_expects, deepest_stops, inner_expects, is_inner, atoms_one, atoms_more, pars_one, pars_more, is_tensor, is_chain}
 use Rattle.chyp_syntax.proofs.Numbered.{terminal, tokens_from-more, tokens_from-past, begins_there, within_kind}
 use Rattle.chyp_syntax.proofs.Pieces.{atom_one}
 use Rattle.chyp_syntax.proofs.Separated.{so_far_more, so_far_last, again_more, again_last}
 use Rattle.chyp_syntax.proofs.Trees.{tree_of-Named, tree_of-Wire, tree_of-Empty}
-use Rattle.chyp_syntax.proofs.Verdicts.{stops_here, token_passes}
+use Rattle.chyp_syntax.proofs.Verdicts.{name-answers, stops_here, token_passes}
 use Rattle.chyp_syntax.proofs.terms.+terms.Goals as goal
 
 -- ---- atoms
@@ -57,7 +57,7 @@ atom-returns-in-Ident-clause-passes t c =
     let tokens = c.args.tokens.now in
     let at = c.args.at in
     let here = tokens_from-more tokens at token c.in-Some.ensures.lookup.3.0 c.in-Some.ensures.lookup.1 in
-    atom_one tokens at c.args.depth (at, terminal token) here (name_takes c.args.depth (at, terminal token) c.in-Ident.is)
+    atom_one tokens at c.args.depth (at, terminal token) here (name-answers c.args.depth (at, terminal token) c.in-Ident.is)
 
 pub atom-returns-in-WordId-clause-read : goal.atom-returns-in-WordId-clause-read
 atom-returns-in-WordId-clause-read t c =

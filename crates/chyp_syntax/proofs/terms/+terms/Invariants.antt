@@ -1,6 +1,6 @@
 use Rattle.std.proofs.Common.{◌+◌, ◌-◌, ◌*◌, ◌≤◌, [], length, map}
 use Rattle.chyp_syntax.specs.Expected.{next, atom, tail, atoms_left, term_then}
-use Rattle.chyp_syntax.specs.Numbered.{tokens_from}
+use Rattle.chyp_syntax.specs.Beginning.{tokens_from}
 use Rattle.chyp_syntax.specs.Sentence.{AreAtoms, ArePars}
 use Rattle.chyp_syntax.specs.Term.{tree_of}
 use Rattle.chyp_syntax.proofs.Separated.{SoFar, Again}

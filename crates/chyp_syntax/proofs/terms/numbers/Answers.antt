@@ -2,7 +2,7 @@ use Rattle.std.proofs.Common.{◌≡◌, ◌+◌, [], ◌∷◌, ◌++◌, refl,
 use Rattle.std.proofs.lemmas.Bool.{both_ways}
 use Rattle.chyp_lex.specs.declared.token.TokenKind.TheVariants.{Comma, Number}
 use Rattle.chyp_syntax.specs.Expected.{next, token, tail, numbers_left}
-use Rattle.chyp_syntax.specs.Numbered.{tokens_from}
+use Rattle.chyp_syntax.specs.Beginning.{tokens_from}
 use Rattle.chyp_syntax.specs.Sentence.{AreNumbers}
 use Rattle.chyp_syntax.proofs.Numbered.{number_kind, within_kind}
 use Rattle.chyp_syntax.proofs.Numbers.{IsNumber, numbers_one, numbers_more, a_number}

@@ -1,7 +1,7 @@
 use Rattle.std.proofs.Common.{◌-◌, ◌≤◌, [], length}
 use Rattle.chyp_lex.specs.declared.token.TokenKind.TheVariants.{Number}
 use Rattle.chyp_syntax.specs.Expected.{next, token, tail, numbers_left}
-use Rattle.chyp_syntax.specs.Numbered.{tokens_from}
+use Rattle.chyp_syntax.specs.Beginning.{tokens_from}
 use Rattle.chyp_syntax.specs.Sentence.{AreNumbers}
 use Rattle.chyp_syntax.proofs.Separated.{SoFar, Again}
 use Rattle.chyp_syntax.proofs.terms.numbers.Given as goal

@@ -4,7 +4,7 @@ use Rattle.std.proofs.lemmas.Result.{err_from_is_err_and}
 use Rattle.chyp_lex.specs.declared.token.TokenKind.TheVariants.{LeftBracket, RightBracket}
 use Rattle.chyp_syntax.specs.declared.error.ParseError.TheVariants.{Syntax}
 use Rattle.chyp_syntax.specs.Expected.{next, token, places_left}
-use Rattle.chyp_syntax.specs.Numbered.{tokens_from}
+use Rattle.chyp_syntax.specs.Beginning.{tokens_from}
 use Rattle.chyp_syntax.proofs.Numbered.{within_kind}
 use Rattle.chyp_syntax.proofs.Numbers.{is_two_places, is_these_places, places_expect}
 use Rattle.chyp_syntax.proofs.Trees.{tree_of-Swap}

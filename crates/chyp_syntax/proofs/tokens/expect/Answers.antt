@@ -1,7 +1,7 @@
 use Rattle.std.proofs.Common.{◌≡◌}
 use Rattle.std.proofs.lemmas.Bool.{both_ways}
 use Rattle.chyp_syntax.specs.Expected.{next, token}
-use Rattle.chyp_syntax.specs.Numbered.{tokens_from}
+use Rattle.chyp_syntax.specs.Beginning.{tokens_from}
 use Rattle.chyp_syntax.proofs.Numbered.{token_there}
 use Rattle.chyp_syntax.proofs.Verdicts.{token_stops, stops_here}
 use Rattle.chyp_syntax.proofs.tokens.expect.Goals as goal

@@ -2,7 +2,8 @@ use Rattle.std.proofs.Common.{◌≡◌, ◌⊎◌, inl, inr, List, [], ◌∷�
 use Rattle.std.proofs.lemmas.Bool.{both_ways}
 use Rattle.chyp_lex.specs.declared.token.TokenKind.TheVariants.{Ident, Dotted}
 use Rattle.chyp_syntax.specs.Expected.{next, name}
-use Rattle.chyp_syntax.specs.Numbered.{NumberedToken, tokens_from, BeginsWithName, BeginsWithKind}
+use Rattle.chyp_syntax.specs.Numbered.{NumberedToken}
+use Rattle.chyp_syntax.specs.Beginning.{tokens_from, BeginsWithName, BeginsWithKind}
 use Rattle.chyp_syntax.proofs.Numbered.{token_there}
 use Rattle.chyp_syntax.proofs.Verdicts.{name_stops, stops_here}
 use Rattle.chyp_syntax.proofs.tokens.expect_name.Goals as goal

@@ -3,7 +3,7 @@ use Rattle.std.proofs.lemmas.Bool.{false≢true}
 use denote.Enum.Bare.{same_true, true_same}
 use Rattle.chyp_lex.specs.contracts.token.TokenKind.{the_type}
 use Rattle.chyp_syntax.proofs.Numbered.{terminal, tokens_from-more, tokens_from-past, begins_there, kind_there, nothing_begins}
-use Rattle.chyp_syntax.specs.Numbered.{tokens_from}
+use Rattle.chyp_syntax.specs.Beginning.{tokens_from}
 use Rattle.chyp_syntax.proofs.tokens.is_kind.Goals as goal
 
 pub returns-in-Some : goal.returns-in-Some
