@@ -109,7 +109,8 @@ impl Work {
         requires rule { IsGraphRule left.now.graph right.now }
         requires edges { All (λ k. IsIn k self.old.edges) at.now.edges }
         requires wires { All (λ w. IsIn w self.old.wires) at.now.wires }
-        requires occurrence { IsOccurrence left.now.graph (plain self.old) (edge_places self.old at.now.edges) (wire_places self.old at.now.wires) }
+        requires occurrence { IsOccurrence left.now.graph (plain self.old) (edge_places self.old at.now.edges)
+            (wire_places self.old at.now.wires) }
         requires few_wires { length self.old.wires + length right.now.wires < 2 ^ 31 }
         requires few_edges { length self.old.edges + length right.now.edges < 2 ^ 31 }
         ensures step { OnOk result (plain self.new ≡ replaced (plain self.old) left.now.graph right.now (edge_places self.old at.now.edges)
