@@ -44,7 +44,8 @@ output_of text tokens chunks verdicts checks = record {
 pub data IsCheck (texts : Texts) (text : List ℕ) : Output → Type 0 where
   too_long : Results texts text too_long' → IsCheck texts text (nothing_but TooLong)
   checked : {tokens : List Token} {chunks : List Chunk} {verdicts : List Verdict} {checks : ℕ} → AreTokens text tokens
-      → AreChunks tokens chunks → Results texts text (checked' verdicts checks) → IsCheck texts text (output_of text tokens chunks verdicts checks)
+      → AreChunks tokens chunks → Results texts text (checked' verdicts checks)
+      → IsCheck texts text (output_of text tokens chunks verdicts checks)
 
 -- What a run is to give for its words, the bytes of its source and the texts of its library: what the command that the
 -- words name gives, and nothing where they name none.

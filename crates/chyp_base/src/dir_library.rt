@@ -51,9 +51,11 @@ impl<F: Files> Library for DirLibrary<F> {
         ensures same { ⟦<DirLibrary<F> as Library>⟧.texts self.new ≡ ⟦<DirLibrary<F> as Library>⟧.texts self.old }
         ensures bound { length into.new.items ≤ most_read }
         ensures found { FindsModule (⟦<DirLibrary<F> as Library>⟧.texts self.old) name.now result into.new.items }
-        ensures cause { LibraryHasCause (⟦<DirLibrary<F> as Library>⟧.faults self.old) (⟦<DirLibrary<F> as Library>⟧.faults self.new) result }
+        ensures cause { LibraryHasCause (⟦<DirLibrary<F> as Library>⟧.faults self.old) (⟦<DirLibrary<F> as Library>⟧.faults self.new)
+            result }
         // A failure is one fault.
-        ensures counts { result ≡ Err Failed → ⟦<DirLibrary<F> as Library>⟧.faults self.new ≡ ⟦<DirLibrary<F> as Library>⟧.faults self.old + 1 }
+        ensures counts { result ≡ Err Failed
+            → ⟦<DirLibrary<F> as Library>⟧.faults self.new ≡ ⟦<DirLibrary<F> as Library>⟧.faults self.old + 1 }
     {
         into.clear();
         let Ok(path) = format!(in self.alloc; "{name}.chyp") else {
