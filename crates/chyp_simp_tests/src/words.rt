@@ -1,5 +1,5 @@
 // Diagrams from one wire to one, by words.
-ghost use Rattle.std.specs.Prelude.{IfOk, IsTrue};
+ghost use Rattle.std.specs.Prelude.{IfOk, IsTrue, OnOk};
 ghost use Rattle.chyp_term.specs.Derivation.{IsEquation};
 ghost use Rattle.chyp_term.specs.Equation.{equation_of, equations_of};
 ghost use Rattle.chyp_term.specs.Limits.{IsWithinLimits};
@@ -32,55 +32,90 @@ fn named(alloc: Global, name: &str, dom: u32, cod: u32) -> Result<Term, Fail> {
     Ok(Term::Gen { name, dom, cod })
 }
 
+/// The permutation of one wire.
+fn one_place(alloc: Global) -> Result<Perm, Fail> {
+    match Perm::new(Places::from_vec(vec![in alloc; 0; 1]?)) {
+        Some(perm) => Ok(perm),
+        None => Err(Fail::new("no permutation")),
+    }
+}
+
 /// One wire.
 fn wire(alloc: Global) -> Result<Term, Fail> {
-    let Some(perm) = Perm::new(Places::from_vec(vec![in alloc; 0; 1]?)) else {
-        return Err(Fail::new("no permutation"));
-    };
+    let perm = Rc::new(alloc, one_place(alloc)?)?;
     Ok(Term::Perm {
         sorts: wires(alloc, 1)?,
-        perm: Rc::new(alloc, perm)?,
+        perm,
     })
 }
 
 /// The one diagram beside the other.
 fn beside(alloc: Global, first: Term, second: Term) -> Result<Term, Fail> {
-    Ok(Term::Par(Rc::new(alloc, first)?, Rc::new(alloc, second)?))
+    let first = Rc::new(alloc, first)?;
+    Ok(Term::Par(first, Rc::new(alloc, second)?))
 }
 
 /// The one diagram and then the other.
 fn then(alloc: Global, first: Term, second: Term) -> Result<Term, Fail> {
-    Ok(Term::Seq(Rc::new(alloc, first)?, Rc::new(alloc, second)?))
+    let first = Rc::new(alloc, first)?;
+    Ok(Term::Seq(first, Rc::new(alloc, second)?))
+}
+
+/// A diagram and then a box f.
+fn then_f(alloc: Global, first: Term) -> Result<Term, Fail> {
+    let second = named(alloc, "f", 1, 1)?;
+    then(alloc, first, second)
 }
 
 /// The box f, 16 times.
 fn sixteen(alloc: Global) -> Result<Term, Fail> {
     let mut term = named(alloc, "f", 1, 1)?;
     for _ in 0..15 {
-        term = then(alloc, term, named(alloc, "f", 1, 1)?)?;
+        term = then_f(alloc, term)?;
     }
     Ok(term)
+}
+
+/// A wire beside a box without ports.
+fn scalar(alloc: Global) -> Result<Term, Fail> {
+    let wire = wire(alloc)?;
+    beside(alloc, wire, named(alloc, "s", 0, 0)?)
+}
+
+/// A unit beside a wire.
+fn unit(alloc: Global) -> Result<Term, Fail> {
+    let unit = named(alloc, "u", 0, 1)?;
+    beside(alloc, unit, wire(alloc)?)
+}
+
+/// A unit beside a wire, and then what takes it away.
+fn no_unit(alloc: Global) -> Result<Term, Fail> {
+    let unit = unit(alloc)?;
+    then(alloc, unit, named(alloc, "m", 2, 1)?)
 }
 
 /// The diagram of a letter: `s` is a wire beside a box without ports, `e` is u * id ; m, `F` is the box f
 /// 16 times, and each other letter is a box.
 fn letter(alloc: Global, name: &str) -> Result<Term, Fail> {
     match name {
-        "s" => beside(alloc, wire(alloc)?, named(alloc, "s", 0, 0)?),
-        "e" => {
-            let both = beside(alloc, named(alloc, "u", 0, 1)?, wire(alloc)?)?;
-            then(alloc, both, named(alloc, "m", 2, 1)?)
-        }
+        "s" => scalar(alloc),
+        "e" => no_unit(alloc),
         "F" => sixteen(alloc),
         _ => named(alloc, name, 1, 1),
     }
+}
+
+/// A diagram and then that of a letter.
+fn then_letter(alloc: Global, first: Term, name: &str) -> Result<Term, Fail> {
+    let second = letter(alloc, name)?;
+    then(alloc, first, second)
 }
 
 /// The diagrams of letters, one behind the other, behind a wire.
 fn chain(alloc: Global, letters: &str) -> Result<Term, Fail> {
     let mut term = wire(alloc)?;
     for name in letters.split_whitespace() {
-        term = then(alloc, term, letter(alloc, name)?)?;
+        term = then_letter(alloc, term, name)?;
     }
     Ok(term)
 }
@@ -111,16 +146,38 @@ fn have_one_type(alloc: Global, left: &Term, right: &Term) -> bool
     }
 }
 
+/// The equation of two terms.
+fn equation_between(alloc: Global, left: Term, right: Term) -> Result<Equation, Fail>
+    ensures { IfOk result (λ equation. IsUsable (equation_of equation)) }
+{
+    if are_usable(alloc, &left, &right) {
+        return Ok(Equation { left, right });
+    }
+    Err(Fail::new("no equation within the limits"))
+}
+
 /// The equation of two chains.
 pub(crate) fn equation(alloc: Global, left: &str, right: &str) -> Result<Equation, Fail>
     ensures { IfOk result (λ equation. IsUsable (equation_of equation)) }
 {
     let left = chain(alloc, left)?;
-    let right = chain(alloc, right)?;
-    if are_usable(alloc, &left, &right) {
-        return Ok(Equation { left, right });
+    equation_between(alloc, left, chain(alloc, right)?)
+}
+
+/// Puts the equations of these words behind those of a list.
+fn add(
+    alloc: Global,
+    equations: &mut Vec<Equation>,
+    table: &[[&'static str; 2]],
+) -> Result<(), Fail>
+    requires { AreUsable (equations_of equations.old.items) }
+    ensures { OnOk result (AreUsable (equations_of equations.new.items)) }
+{
+    for sides in table {
+        let next = equation(alloc, sides[0], sides[1])?;
+        equations.push(next)?;
     }
-    Err(Fail::new("no equation within the limits"))
+    Ok(())
 }
 
 /// The equations of these words, each with its two sides one behind the other.
@@ -128,9 +185,6 @@ pub(crate) fn equations(alloc: Global, table: &[[&'static str; 2]]) -> Result<Ve
     ensures { IfOk result (λ equations. AreUsable (equations_of equations.items)) }
 {
     let mut equations = Vec::new(alloc);
-    for sides in table {
-        let next = equation(alloc, sides[0], sides[1])?;
-        equations.push(next)?;
-    }
+    add(alloc, &mut equations, table)?;
     Ok(equations)
 }

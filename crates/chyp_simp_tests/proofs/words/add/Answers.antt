@@ -4,7 +4,7 @@ use Rattle.std.proofs.lemmas.List.Elements.{All-append, All-cons, All-nil}
 use Rattle.chyp_term.specs.Equation.{equation_of, equations_of}
 use Rattle.chyp_term.specs.declared.equation.Equation.{Equation}
 use Rattle.chyp_simp.specs.Laws.{AreUsable, IsUsable}
-use Rattle.chyp_simp_tests.proofs.words.equations.Goals as goal
+use Rattle.chyp_simp_tests.proofs.words.add.Goals as goal
 
 pub loop-sides-preserved : goal.loop-sides-preserved
 loop-sides-preserved c =
