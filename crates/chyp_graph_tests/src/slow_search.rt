@@ -1,5 +1,5 @@
 // A search over all lists of images, which asks of each what an occurrence is, beside the matcher.
-ghost use Rattle.std.specs.Prelude.{◌≡◌, length};
+ghost use Rattle.std.specs.Prelude.{◌<◌, length};
 
 use crate::diagrams::{are, graph};
 use crate::occurrences::images;
@@ -80,22 +80,23 @@ fn keeps_wires(target: &Graph, images: &Images) -> bool {
     images.wires.iter().all(|wire| *wire < target.wire_count())
 }
 
+/// Whether a marked edge makes the wire.
+fn is_made_by_marked(target: &Graph, wire: WireId, marks: &[bool]) -> bool {
+    if wire.0 >= target.wire_count() {
+        return false;
+    }
+    match target.producer(wire) {
+        Some((maker, _)) => marks.get(maker.0 as usize) == Some(&true),
+        None => false,
+    }
+}
+
 /// Whether the edge takes an image wire, or a target of a marked edge.
 fn is_led_to(target: &Graph, k: EdgeId, images: &Images, marks: &[bool]) -> bool
     requires { k < length target.now.edges }
 {
-    target.valid();
-    for wire in target.edge(k).sources {
-        if images.wires.contains(&wire.0) {
-            return true;
-        }
-        if let Some((maker, _)) = target.producer(*wire) {
-            if marks.get(maker.0 as usize) == Some(&true) {
-                return true;
-            }
-        }
-    }
-    false
+    target.edge(k).sources.iter().any(|wire| images.wires.contains(&wire.0)
+        || is_made_by_marked(target, *wire, marks))
 }
 
 /// Marks the edges outside the image that image wires or marked edges lead to.
@@ -109,7 +110,7 @@ fn mark(target: &Graph, images: &Images, marks: &mut [bool]) {
     }
 }
 
-/// Whether no marked edge makes an image wire.
+/// Whether a marked edge makes an image wire.
 fn leads_back(target: &Graph, images: &Images, marks: &[bool]) -> bool {
     for k in 0..target.edge_count() {
         let makes = target
