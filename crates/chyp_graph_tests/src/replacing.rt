@@ -17,7 +17,7 @@ use std::alloc::Global;
 use std::test::Fail;
 
 /// The graph in words with this occurrence of the left side replaced by the right side.
-fn replaced_at(
+pub(crate) fn replaced_at(
     alloc: Global,
     target: &Graph,
     left: &Pattern,
@@ -76,7 +76,7 @@ fn graphs_of(alloc: Global, rule: &Equation) -> Result<(Pattern, Graph), Fail>
 }
 
 /// The graphs of the sides of the rule of these words.
-fn sides(alloc: Global, left: &str, right: &str) -> Result<(Pattern, Graph), Fail>
+pub(crate) fn sides(alloc: Global, left: &str, right: &str) -> Result<(Pattern, Graph), Fail>
     ensures { IfOk result (λ sides. IsGraphRule sides.0.graph sides.1) }
 {
     let rule = rule(alloc, left, right)?;
